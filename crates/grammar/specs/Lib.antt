@@ -1,0 +1,13 @@
+pub mod Grammar
+pub mod Texts
+pub mod Statements
+pub mod Trees
+pub mod Spelling
+pub mod First
+pub mod Places
+pub mod Table
+pub mod Rows
+pub mod Analysis
+pub mod Analysed
+pub mod Computed
+pub mod Marking
