@@ -1,0 +1,5 @@
+use Rattle.parser.proofs.Theorems.{texts-are-read}
+use Rattle.parser.proofs.texts_are_read.Needs as need
+
+pub returns : need.returns
+returns c = texts-are-read
