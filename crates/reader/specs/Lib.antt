@@ -1,0 +1,10 @@
+pub mod House
+pub mod Promise
+pub mod Decode
+pub mod Requests
+pub mod Memory
+pub mod Tables
+pub mod Machine
+pub mod Entry
+pub mod Holds
+pub mod Running
