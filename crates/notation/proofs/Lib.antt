@@ -1,0 +1,3 @@
+mod Looking
+mod Meaning
+mod Saying
