@@ -123,7 +123,10 @@ fn start(rt: &LibcRuntime) -> Result<(), AnyError> {
         rt.println(HELP)?;
         return Ok(());
     }
-    let text = fs::read_to_string(rt, path.as_str())?;
+    let Ok(text) = fs::read_to_string(rt, path.as_str()) else {
+        eprintln!(rt, "console: {path} cannot be read")?;
+        return Err("a file that cannot be read".into());
+    };
     converse(rt, text.as_str())
 }
 

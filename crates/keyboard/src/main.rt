@@ -34,7 +34,10 @@ fn converse(
 
 fn converse_file(rt: &LibcRuntime, path: &str) -> Result<(), AnyError> {
     let mut session = Session::new(rt.alloc())?;
-    let text = fs::read_to_string(rt, path)?;
+    let Ok(text) = fs::read_to_string(rt, path) else {
+        eprintln!(rt, "keyboard: {path} cannot be read")?;
+        return Err("a file that cannot be read".into());
+    };
     let mut number = 0u64;
     for line in text.lines() {
         number = number.saturating_add(1);
