@@ -205,7 +205,7 @@ fn pair_round(work: &mut [u64], table: &Table, analysis: &Analysis) -> bool
 }
 
 /// All pairs, by rounds until one adds nothing.
-pub fn saturate(work: &mut [u64], table: &Table, analysis: &Analysis)
+fn saturate(work: &mut [u64], table: &Table, analysis: &Analysis)
     ensures { λ _. ⌜ ((g : Grammar) → Shows (now (table .entry)) g → Analysed g (now (analysis .entry)) → length (now (work .entry)) ≡ 36864 → now (work .exit) ≡ pairs g) ⌝ }
 {
     zeroes(work);

@@ -1,10 +1,10 @@
 -- Lookups: one more place that was looked at, and what is found.
-use mathlib.Core.Path.{_≡_, sym, _∙_, ap, subst}
+use mathlib.Core.Path.{_≡_, refl, sym, _∙_, ap, subst}
 use mathlib.Core.Bool.{Bool, true, false, cond, false≢true}
 use mathlib.Core.List.{List, [], _∷_, _++_, map}
 use mathlib.Core.Logic.{_⊎_, inl, inr}
 use Prim.Native.Nat.{ℕ, _+_, _≤_, _<_}
-use lib.ListN.{length, getD, take}
+use lib.ListN.{length, getD, take, length-append}
 use native.Mathlib.Omega.{arith}
 use Rattle.std.specs.Orderings.{Decides}
 use Rattle.std.proofs.shelf.Lists.{getD-map, getD-past, length-map, take-all, take-at}
@@ -44,3 +44,14 @@ not-before-all f xs i d w n l k less z = n k (omega (arith, less, length-map xs 
 pub kept-push : {A : Type 0} (xs ys : List A) (n : ℕ) (y : A) (t : Bool) → n ≡ length xs → ys ≡ cond t (xs ++ y ∷ []) xs → take n ys ≡ xs
 kept-push xs ys n y true e h = ap (λ z. take n z) h ∙ take-at xs (y ∷ []) n (sym e)
 kept-push xs ys n y false e h = ap (λ z. take n z) h ∙ take-all n xs (omega (arith, e))
+
+-- what was put at the end stands there
+at-end : {A B : Type 0} (f : A → B) (xs : List A) (y : A) (d : B) → getD (map f (xs ++ y ∷ [])) (length xs) d ≡ f y
+at-end f [] y d = refl
+at-end f (x ∷ xs) y d = at-end f xs y d
+
+pub pushed-there : {A B : Type 0} (f : A → B) (xs ys : List A) (y : A) (n : ℕ) (w d : B) → n ≡ length xs → ys ≡ xs ++ y ∷ [] → f y ≡ w →
+    (n < length (map f ys)) × (getD (map f ys) n d ≡ w)
+pushed-there f xs ys y n w d e h k =
+    let l : length ys ≡ length xs + 1 = ap length h ∙ length-append xs (y ∷ []) in
+    (omega (arith, length-map ys f, l, e), ap (λ z. getD (map f z) n d) h ∙ ap (λ i. getD (map f (xs ++ y ∷ [])) i d) e ∙ at-end f xs y d ∙ k)

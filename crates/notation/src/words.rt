@@ -8,6 +8,7 @@ ghost use Rattle.notation.specs.Lookups.{Finds};
 ghost use Rattle.std.specs.Of.String.{string-bytes};
 ghost use Rattle.std.specs.Of.Vec.{vec-items, vec-len};
 ghost use Rattle.std.specs.Vec.{made};
+ghost use Rattle.std.specs.declared.option.Option.the-variants.{Some};
 use crate::fault::Fault;
 use crate::fault::FaultFromAlloc;
 use crate::fault::FaultFromRefused;
@@ -47,6 +48,7 @@ impl Words {
     // The number of a word, which is put at the end where it is new.
     pub fn enter(&mut self, heap: Global, word: &str) -> Result<usize, Fault>
         ensures kept { λ _. ⌜ take (vec-len (now (self .entry) .all)) (vec-items (now (self .exit) .all)) ≡ vec-items (now (self .entry) .all) ⌝ }
+        ensures stands { λ r. ⌜ made r (λ n. Finds [] (map string-bytes (vec-items (now (self .exit) .all))) (now (word .entry)) (Some n)) ⌝ }
     {
         if let Some(number) = self.find(word) {
             return Ok(number);
