@@ -11,7 +11,7 @@ import collections, glob, os, re, sys
 
 WORD = re.compile(r"[^\s(){}\[\];,.\"`|]+")
 # a name that would fall together with a function's gets `_lem`; with a type's, another word
-OTHER = {"Clash-found": "ClashIsFound", "Gave-out": "GaveOutThere", "First-known": "FirstKnown"}
+OTHER = {"Clash-found": "ClashIsFound", "Gave-out": "GaveOutThere", "First-known": "FirstKnown", "Item-set": "IsItemSet"}
 # names that are tactics now
 TACTICS = {"first_of": "first_split", "ground": "foot"}
 LEAD = r"^(\s*)((?:unfoldable |abbrev |pub |data |record )*)"
@@ -80,7 +80,6 @@ def turn(text, table, fields, guarded):
 
 def turn_source(text, table):
     """Ghost imports and clauses of a source file; the code stays."""
-    table = dict(table)
     out, depth, at = [], 0, 0
     for m in re.finditer(r"\bghost use [^;]*;|\b(?:requires|ensures|ghost)\*?(?: \w+)?:? ?\{", text):
         if m.start() < at:
@@ -120,13 +119,6 @@ def main():
         print("falls together:", n, "->", t)
     if clash:
         return 1
-    if "--list" in sys.argv:
-        for path in antt:
-            if of_function(path):
-                for word in re.findall(r"\.([^\s(){}\[\];,.]+)", read(path)):
-                    if word in table and word in fields:
-                        print(path, word)
-        return 0
     for path in antt:
         text = read(path)
         new = turn(text, table, fields, of_function(path))

@@ -14,7 +14,7 @@ use Rattle.grammar.specs.Spelling.{sym_spelled}
 use Rattle.grammar.specs.Places.{places, rest, next_code}
 use Rattle.grammar.proofs.Picks.{pick_true, pick_both}
 use Rattle.grammar.proofs.Places.{place_next, rest_fits}
-use Rattle.items.specs.Sets.{no_items, stackable, advance_place_lem, advanced_set, ItemSet}
+use Rattle.items.specs.Sets.{no_items, stackable, advance_place_lem, advanced_set, IsItemSet}
 use Rattle.items.proofs.StackSymbols.{fits_stackable, code_below, code_once}
 use Rattle.items.proofs.ClosedSets.{nothing_in_none, item_set_none, item_set_put}
 
@@ -31,11 +31,11 @@ module _ (g : Grammar) (fits : a_grammar g ≡ true) (x : Sym) (known : stackabl
       let n = next_from_code x (rest g p) known (rest_fits g p fits) e in
       (place_next g p x n.0 n.1).within
 
-  pub advanced_shape : (s : List ℕ) → ItemSet g s → ItemSet g (advanced_set g (sym_spelled x) s)
+  pub advanced_shape : (s : List ℕ) → IsItemSet g s → IsItemSet g (advanced_set g (sym_spelled x) s)
   unfolding advanced_set
   advanced_shape s i =
-      counted_keeps (ItemSet g) (advance_place_lem g (sym_spelled x) s) (places g)
-      (λ p u _ iu. pick_both _ _ _ (ItemSet g)
+      counted_keeps (IsItemSet g) (advance_place_lem g (sym_spelled x) s) (places g)
+      (λ p u _ iu. pick_both _ _ _ (IsItemSet g)
       (λ b. item_set_put iu (suc p) (get_or s p 0) (suc_within p (eqb-true _ _ b)) (i.fits p))
       (λ _. iu))
       no_items (item_set_none g)

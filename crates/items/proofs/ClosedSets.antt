@@ -18,18 +18,18 @@ use Rattle.grammar.specs.Rows.{begins_with}
 use Rattle.grammar.specs.Analysis.{behind, passes}
 use Rattle.grammar.proofs.Picks.{pick_true, pick_both, up_pick}
 use Rattle.grammar.proofs.Places.{place_first}
-use Rattle.items.specs.Sets.{no_items, begun_ahead, begin_rule, close_place, close_round_lem, closure, ItemSet}
+use Rattle.items.specs.Sets.{no_items, begun_ahead, begin_rule, close_place, close_round_lem, closure, IsItemSet}
 
 -- ---- the shape of item sets
 
 pub nothing_in_none : (p : ℕ) → get_or no_items p 0 ≡ 0
 nothing_in_none p = zero_at 192 p
 
-pub item_set_none : (g : Grammar) → ItemSet g no_items
+pub item_set_none : (g : Grammar) → IsItemSet g no_items
 item_set_none g =
     record { long = length-replicate {A = ℕ} 192 0; fits = λ p. omega (arith, nothing_in_none p); past = λ p _. nothing_in_none p }
 
-pub item_set_put : {g : Grammar} {s : List ℕ} → ItemSet g s → (q w : ℕ) → q < places g → w < 2 ^ 25 → ItemSet g (set s q w)
+pub item_set_put : {g : Grammar} {s : List ℕ} → IsItemSet g s → (q w : ℕ) → q < places g → w < 2 ^ 25 → IsItemSet g (set s q w)
 item_set_put {g} {s} i q w lq lw =
     record {
       long = length-set s q w ∙ i.long;
@@ -47,7 +47,7 @@ item_set_put {g} {s} i q w lq lw =
         (λ l. rw (set_past s q w l) (i.fits p))
         (cases_lt q (length s))
 
-pub item_set_or_at : {g : Grammar} {s : List ℕ} → ItemSet g s → (q m : ℕ) → q < places g → m < 2 ^ 25 → ItemSet g (or_at s q m)
+pub item_set_or_at : {g : Grammar} {s : List ℕ} → IsItemSet g s → (q m : ℕ) → q < places g → m < 2 ^ 25 → IsItemSet g (or_at s q m)
 item_set_or_at {g} {s} i q m lq lm = item_set_put i q (bit_or (get_or s q 0) m) lq (or_lt 25 (get_or s q 0) m (i.fits q) lm)
 
 -- what a rule begun has ahead fits, if what stands behind the name does
@@ -84,22 +84,22 @@ up_place : (g : Grammar) (p : ℕ) (s : List ℕ) → Up size s (close_place g p
 up_place g p s = up_counted size (begin_rule g p (begun_ahead g p (get_or s p 0))) (up_begin g p (begun_ahead g p (get_or s p 0))) (length g) s
 
 module _ (g : Grammar) (small : (p : ℕ) → behind g p < 2 ^ 25) where
-  keeps_shape : Keeps g (ItemSet g)
+  keeps_shape : Keeps g (IsItemSet g)
   keeps_shape p k s u hp hk b is iu =
       item_set_or_at iu (first_place_lem g k) (begun_ahead g p (get_or s p 0)) (place_first g k hk).within (begun_fits g p (get_or s p 0) (small p) (is.fits p))
 
-  pub closure_shape : (s : List ℕ) → ItemSet g s → ItemSet g (closure g s)
-  closure_shape = closure_keeps g (ItemSet g) keeps_shape
+  pub closure_shape : (s : List ℕ) → IsItemSet g s → IsItemSet g (closure g s)
+  closure_shape = closure_keeps g (IsItemSet g) keeps_shape
 
-  below : (s : List ℕ) → ItemSet g s → size s ≤ 12288
+  below : (s : List ℕ) → IsItemSet g s → size s ≤ 12288
   below s i =
       let w : Words 192 s = (i.long, λ p. omega (arith, i.fits p)) in
       omega (arith, size_below 192 s w)
 
-  pub closure_rests : (s : List ℕ) → ItemSet g s → close_round_lem g (closure g s) ≡ closure g s
+  pub closure_rests : (s : List ℕ) → IsItemSet g s → close_round_lem g (closure g s) ≡ closure g s
   unfolding closure
   closure_rests s i =
-      iter_fixpoint (close_round_lem g) size 12288 (ItemSet g) (round_keeps g (ItemSet g) keeps_shape) below
+      iter_fixpoint (close_round_lem g) size 12288 (IsItemSet g) (round_keeps g (IsItemSet g) keeps_shape) below
       (λ x _. up_counted size (close_place g) (up_place g) (places g) x) 12288 s i (omega arith)
 
 pub begun_at_rest : (g : Grammar) (z : List ℕ) → close_round_lem g z ≡ z → (p k : ℕ) → p < places g → k < length g → begins_with (rule g k).left (rest g p) ≡ true →

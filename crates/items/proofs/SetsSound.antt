@@ -10,7 +10,7 @@ use Rattle.grammar.specs.Spelling.{sym_spelled}
 use Rattle.grammar.specs.Places.{rest, owner, first_place_lem, At}
 use Rattle.grammar.proofs.Places.{place_zero, place_first, place_next, rest_fits}
 use Rattle.items.specs.Items.{Valid, start, advance}
-use Rattle.items.specs.Sets.{no_items, begun_ahead, advanced_set, goto, start_set, stackable, set_of, ItemSet}
+use Rattle.items.specs.Sets.{no_items, begun_ahead, advanced_set, goto, start_set, stackable, set_of, IsItemSet}
 use Rattle.items.proofs.First.{close_by_first}
 use Rattle.items.proofs.ClosedSets.{nothing_in_none, item_set_none, item_set_or_at, Keeps, closure_keeps, closure_shape}
 use Rattle.items.proofs.AdvancedSets.{next_from_code, advanced_shape, advanced_cases}
@@ -20,10 +20,10 @@ valid_at : {g : Grammar} {γ : List Sym} {p r : ℕ} {β : List Sym} {t : ℕ} �
 valid_at {g} {γ} {t = t} a v = subst₂ (λ k δ. Valid g γ k δ t) (sym a.owned) (sym a.rests) v
 
 module _ (g : Grammar) (fits : a_grammar g ≡ true) where
-  pub kernel_shape : ItemSet g (or_at no_items 0 (2 ^ 24))
+  pub kernel_shape : IsItemSet g (or_at no_items 0 (2 ^ 24))
   kernel_shape = item_set_or_at (item_set_none g) 0 (2 ^ 24) (place_zero g fits).within (omega arith)
 
-  pub set_shape : (γ : List Sym) → every stackable γ ≡ true → ItemSet g (set_of g γ)
+  pub set_shape : (γ : List Sym) → every stackable γ ≡ true → IsItemSet g (set_of g γ)
   unfolding set_of start_set goto every
   set_shape [] h = closure_shape g (behind_below g fits) (or_at no_items 0 (2 ^ 24)) kernel_shape
   set_shape (x ∷ γ) h =

@@ -13,7 +13,7 @@ abbrev pub no_items : List ℕ
 no_items = replicate 192 0
 
 -- 192 words of 25 bits, and nothing past the places
-pub record ItemSet (g : Grammar) (s : List ℕ) : Type 0 where
+pub record IsItemSet (g : Grammar) (s : List ℕ) : Type 0 where
   pub long : length s ≡ 192
   pub fits : (p : ℕ) → slice_index s p < 2 ^ 25
   pub past : (p : ℕ) → places g ≤ p → slice_index s p ≡ 0

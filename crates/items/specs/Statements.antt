@@ -6,7 +6,7 @@ use Rattle.grammar.specs.Trees.{Yields}
 use Rattle.grammar.specs.Places.{places, rest, owner}
 use Rattle.items.specs.Items.{onto, first_or, lookahead, Valid}
 use Rattle.items.specs.First.{InFirst}
-use Rattle.items.specs.Sets.{stackable, set_of, ItemSet}
+use Rattle.items.specs.Sets.{stackable, set_of, IsItemSet}
 
 -- AN ITEM IN A FORM, as it is usually defined: a form has the left side of the rule r as its last name, behind `before`; the stack is `before` and what is done of
 -- the rule's right side; β is what is still to come of it, and t the sign ahead behind the rule.
@@ -58,4 +58,4 @@ ClosureByFirst =
 unfoldable pub SetsExact : Type 0
 SetsExact =
     (g : Grammar) (γ : List Sym) → a_grammar g ≡ true → AllUseful g → every stackable γ ≡ true →
-    ItemSet g (set_of g γ) × ((p t : ℕ) → p < places g → (has_bit t (slice_index (set_of g γ) p) ≡ true) ↔ Valid g γ (owner g p) (rest g p) t)
+    IsItemSet g (set_of g γ) × ((p t : ℕ) → p < places g → (has_bit t (slice_index (set_of g γ) p) ≡ true) ↔ Valid g γ (owner g p) (rest g p) t)

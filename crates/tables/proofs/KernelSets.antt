@@ -13,7 +13,7 @@ use Rattle.grammar.proofs.Lists.{never}
 use Rattle.grammar.proofs.Sizes.{sizes}
 use Rattle.grammar.proofs.Places.{place_next, place_once, places_bound, rest_fits}
 use Rattle.items.specs.Items.{Valid, start, advance}
-use Rattle.items.specs.Sets.{stackable, closure, advanced_set, goto, start_set, set_of, ItemSet}
+use Rattle.items.specs.Sets.{stackable, closure, advanced_set, goto, start_set, set_of, IsItemSet}
 use Rattle.items.proofs.Items.{Due, done_part}
 use Rattle.items.proofs.Fits.{stack_fits}
 use Rattle.items.proofs.StackSymbols.{all_stackable}
@@ -33,7 +33,7 @@ bool_same true b f h = sym (f refl)
 bool_same false true f h = h refl
 bool_same false false f h = refl
 
-item_set_same : {g : Grammar} {a b : List ℕ} → ItemSet g a → ItemSet g b → ((q t : ℕ) → has_bit t (get_or a q 0) ≡ true → has_bit t (get_or b q 0) ≡ true) →
+item_set_same : {g : Grammar} {a b : List ℕ} → IsItemSet g a → IsItemSet g b → ((q t : ℕ) → has_bit t (get_or a q 0) ≡ true → has_bit t (get_or b q 0) ≡ true) →
     ((q t : ℕ) → has_bit t (get_or b q 0) ≡ true → has_bit t (get_or a q 0) ≡ true) → a ≡ b
 item_set_same {g} {a} {b} i j f h =
     ext_get_or 0 a b (i.long ∙ sym j.long)
@@ -96,7 +96,7 @@ module _ (g : Grammar) (fits : a_grammar g ≡ true) (useful : AllUseful g) wher
   pub stackable_so : {γ : List Sym} → SomeItem g γ → every stackable γ ≡ true
   stackable_so {γ} i = all_stackable γ (stack_fits g (sizes g fits) i.3)
 
-  kernel_items : (γ : List Sym) → every stackable γ ≡ true → ItemSet g (kernel_of g γ)
+  kernel_items : (γ : List Sym) → every stackable γ ≡ true → IsItemSet g (kernel_of g γ)
   unfolding kernel_of every
   kernel_items [] h = kernel_shape g fits
   kernel_items (x ∷ γ) h =

@@ -9,15 +9,15 @@ use Rattle.words.proofs.packed.write.Goals as goal
 pub returns-then-i-words : goal.returns-then-i-words
 returns-then-i-words c = sym (unpacked_set_past c.args.words.now c.args.i c.args.byte (omega arith))
 
-pub overflow-sub-words : goal.overflow-sub-words
-overflow-sub-words c =
+pub overflow_sub-words : goal.overflow_sub-words
+overflow_sub-words c =
     let w = get_or c.args.words.now (c.args.i / 8) 0 in
     let k = 8 * (c.args.i % 8) in
     let h : k ≤ 56 = omega (arith, mod_below c.args.i 8 (lit< tt)) in
     omega (arith, old_shl w k h, old_below w k)
 
-pub overflow-add-words : goal.overflow-add-words
-overflow-add-words c =
+pub overflow_add-words : goal.overflow_add-words
+overflow_add-words c =
     let w = get_or c.args.words.now (c.args.i / 8) 0 in
     let k = 8 * (c.args.i % 8) in
     let j = mod_below c.args.i 8 (lit< tt) in
