@@ -55,6 +55,11 @@ fits (load g) = a_grammar g
 fits (read_text ts) = a_text ts
 fits (what_next ts) = a_text ts
 
--- WHAT IS KNOWN
+-- THE SMALL CORE: grammars are loaded and texts read. What may come next makes everything known.
+unfoldable pub core : Command → Bool
+core (load g) = true
+core (read_text ts) = true
+core (what_next ts) = false
+
 abbrev pub everything : Command → Bool
 everything c = true
