@@ -3,7 +3,7 @@ use Rattle.std.proofs.Common.{◌≡◌, ℕ, zero, suc, ◌^◌, ◌<◌, Bool,
 use lib.Bits.{bit_and}
 use lib.Count.{count_trailing_zeros}
 use Rattle.std.proofs.lemmas.Nat.{xor_lt, and_le_l}
-use Rattle.std.proofs.lemmas.Bool.{and_parts, and_from, cases_Bool, both_ways, not_true, not_from_false, eqb-true, eqb-false, false≢true}
+use Rattle.std.proofs.lemmas.Bool.{and_parts, and_from, cases_Bool, both_ways, not-true, not_from_false, eqb-true, eqb-false, false≢true}
 use Rattle.words.specs.Bits.{has_bit, without_bits}
 use Rattle.words.proofs.BitLaws.{has_zero, has_without, trailing_has}
 use Rattle.grammar.specs.Grammar.{pick, backwards, name, Grammar, a_grammar, in_grammar, Useful, AllUseful}
@@ -36,7 +36,7 @@ module _ (g : Grammar) (a : a_grammar g ≡ true) (M : ℕ) where
       let n = count_trailing_zeros 64 (unmarked g M) in
       let fits : unmarked g M < 2 ^ 64 = xor_lt 64 (names_in g) (bit_and (names_in g) M) (names_in_fits g) (omega (arith, and_le_l (names_in g) M, names_in_fits g)) in
       let p = and_parts (in_grammar g n) (not (has_bit n M)) (sym (unmarked_is n) ∙ trailing_has 64 (unmarked g M) fits (positive (unmarked g M) some)) in
-      (p.0, not_true (has_bit n M) p.1)
+      (p.0, not-true (has_bit n M) p.1)
     where
       positive : (w : ℕ) → (w ≡ 0 → ⊥) → 0 < w
       positive zero h = absurd (h refl)

@@ -4,8 +4,8 @@ use Rattle.reader.specs.Entry.{place_told}
 use Rattle.reader.proofs.LastName.{NothingFrom, from_end, from_more, place_found, says, says_no}
 use Rattle.reader.proofs.last_name.Goals as goal
 
-pub returns-then-not-all-symbols : goal.returns-then-not-all-symbols
-returns-then-not-all-symbols c = says_no _ _ c.if-not-all-symbols.ensures
+pub returns-then-not-all_symbols : goal.returns-then-not-all_symbols
+returns-then-not-all_symbols c = says_no _ _ c.if-not-all_symbols.ensures
 
 pub back-init : goal.back-init
 back-init c = (omega arith, from_end _ _ (omega arith))
@@ -14,7 +14,7 @@ pub returns-then-symbols-i-ge32 : goal.returns-then-symbols-i-ge32
 unfolding place_told
 returns-then-symbols-i-ge32 c =
     let e : c.back.i ≡ (c.back.i - 1) + 1 = omega arith in
-    says _ ((c.back.i - 1) ∷ []) _ _ c.if-not-all-symbols.ensures
+    says _ ((c.back.i - 1) ∷ []) _ _ c.if-not-all_symbols.ensures
     (place_found _ (c.back.i - 1) (omega arith) (le-leb 32 _ c.if-symbols-i-ge32.true) (subst (λ (k : ℕ). NothingFrom c.args.symbols.now k) e c.back.invariant.1))
     refl
 
@@ -29,4 +29,4 @@ pub returns : goal.returns
 unfolding place_told
 returns c =
     let e : c.back.i ≡ 0 = omega arith in
-    says _ [] _ _ c.if-not-all-symbols.ensures (subst (λ (k : ℕ). NothingFrom c.args.symbols.now k) e c.back.invariant.1) refl
+    says _ [] _ _ c.if-not-all_symbols.ensures (subst (λ (k : ℕ). NothingFrom c.args.symbols.now k) e c.back.invariant.1) refl

@@ -12,11 +12,11 @@ rule-init c = (λ g s h. refl, grew_none size _)
 pub rule-preserved : goal.rule-preserved
 rule-preserved c = (
   λ g s h.
-      let done = c.begin-rule-changed.ensures.value g s h (omega (arith, s.holds.rules, c.rule-test.true)) in
+      let done = c.begin_rule-changed.ensures.value g s h (omega (arith, s.holds.rules, c.rule-test.true)) in
       let before = c.rule.invariant.0 g s h in
       let more = counted_more (begin_with g c.args.p c.args.q c.args.here c.args.there) c.rule.rule c.args.work.now in
       cc,
-  grew_then c.rule.invariant.1 c.begin-rule-changed.ensures.grew,
+  grew_then c.rule.invariant.1 c.begin_rule-changed.ensures.grew,
 )
 
 pub returns : goal.returns

@@ -12,16 +12,16 @@ other-init c = (λ g s a h k. refl, grew_none size _)
 pub other-preserved : goal.other-preserved
 other-preserved c = (
   λ g s a h k.
-      c.pair-step-changed.ensures.value g s a h (omega (arith, c.place-count-count.ensures.value g s, c.other-test.true))
+      c.pair_step-changed.ensures.value g s a h (omega (arith, c.place_count-count.ensures.value g s, c.other-test.true))
       ∙ ap (pair_step g c.args.p c.other.q) (c.other.invariant.0 g s a h k)
       ∙ sym (counted_more (pair_step g c.args.p) c.other.q c.args.work.now),
-  grew_then c.other.invariant.1 c.pair-step-changed.ensures.grew,
+  grew_then c.other.invariant.1 c.pair_step-changed.ensures.grew,
 )
 
 pub returns : goal.returns
 returns c = record {
   value = λ g s a h k.
       c.other.invariant.0 g s a h k
-      ∙ ap (λ n. counted n (pair_step g c.args.p) c.args.work.now) (omega (arith, c.place-count-count.ensures.value g s));
+      ∙ ap (λ n. counted n (pair_step g c.args.p) c.args.work.now) (omega (arith, c.place_count-count.ensures.value g s));
   grew = c.other.invariant.1;
 }

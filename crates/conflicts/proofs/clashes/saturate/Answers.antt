@@ -11,20 +11,20 @@ round-init c g s a = reached_none (pair_round_lem g) size c.put.new.row
 
 pub round-smaller : goal.round-smaller
 round-smaller c =
-    let work = c.pair-round.new.work in
-    omega (arith, size_below (length work) work (refl, λ i. (c.type-inv.work i).fits), c.pair-round.ensures.grew.more c.round-test.true)
+    let work = c.pair_round.new.work in
+    omega (arith, size_below (length work) work (refl, λ i. (c.type_inv.work i).fits), c.pair_round.ensures.grew.more c.round-test.true)
 
 pub round-preserved : goal.round-preserved
 round-preserved c g s a =
-    reached_more (c.round.invariant g s a) c.pair-round.new.work (c.pair-round.ensures.value g s a) (c.pair-round.ensures.grew.more c.round-test.true)
+    reached_more (c.round.invariant g s a) c.pair_round.new.work (c.pair_round.ensures.value g s a) (c.pair_round.ensures.grew.more c.round-test.true)
 
 pub returns : goal.returns
 unfolding pairs
 returns c g s a long =
-    let work = c.pair-round.new.work in
-    let same = c.pair-round.ensures.grew.same c.round-test.false in
-    let rest = sym (c.pair-round.ensures.value g s a) ∙ same in
+    let work = c.pair_round.new.work in
+    let same = c.pair_round.ensures.grew.same c.round-test.false in
+    let rest = sym (c.pair_round.ensures.value g s a) ∙ same in
     let fits : size c.round.work ≤ 2359296 =
-    omega (arith, size_below (length work) work (refl, λ i. (c.type-inv.work i).fits), ap size same) in
+    omega (arith, size_below (length work) work (refl, λ i. (c.type_inv.work i).fits), ap size same) in
     let start = c.put.ensures.value ∙ ap (λ row. or_at row 0 562949970198528) (c.zeroes.ensures ∙ ap (λ n. replicate n 0) long) in
     same ∙ reached_rest (c.round.invariant g s a) rest 2359296 fits ∙ ap (iter 2359296 (pair_round_lem g)) start

@@ -10,8 +10,8 @@ loop-place-init c = (record { long = refl; good = λ p h. absurd (omega arith) }
 
 pub loop-place-preserved : goal.loop-place-preserved
 loop-place-preserved c = (
-  filled_more c.loop-place.invariant.0 c.signs-behind.result c.loop-place-test.true c.signs-behind.ensures,
-  filled_more c.loop-place.invariant.1 c.vanishes-behind.result c.loop-place-test.true c.vanishes-behind.ensures,
+  filled_more c.loop-place.invariant.0 c.signs_behind.result c.loop-place-test.true c.signs_behind.ensures,
+  filled_more c.loop-place.invariant.1 c.vanishes_behind.result c.loop-place-test.true c.vanishes_behind.ensures,
 )
 
 pub returns : goal.returns

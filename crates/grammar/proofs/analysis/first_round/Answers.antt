@@ -12,9 +12,9 @@ loop-rule-init c = (λ g s. refl, grew_none size _)
 pub loop-rule-preserved : goal.loop-rule-preserved
 loop-rule-preserved c = (
   λ g s. let h : c.loop-rule.rule < length g = omega (arith, s.holds.rules) in
-      c.first-rule-changed.ensures.value g s h ∙ ap (first_rule_lem g c.args.nullable c.loop-rule.rule) (c.loop-rule.invariant.0 g s)
+      c.first_rule-changed.ensures.value g s h ∙ ap (first_rule_lem g c.args.nullable c.loop-rule.rule) (c.loop-rule.invariant.0 g s)
       ∙ sym (counted_more (first_rule_lem g c.args.nullable) c.loop-rule.rule c.args.firsts.now),
-  grew_then c.loop-rule.invariant.1 c.first-rule-changed.ensures.grew,
+  grew_then c.loop-rule.invariant.1 c.first_rule-changed.ensures.grew,
 )
 
 pub returns : goal.returns

@@ -10,18 +10,18 @@ round-init c = λ g s. reached_none (first_round g c.args.nullable) size c.args.
 
 pub round-smaller : goal.round-smaller
 round-smaller c =
-    let n : length c.first-round.new.firsts ≡ length c.args.firsts.now = search rules in
-    omega (arith, size_below (length c.args.firsts.now) c.first-round.new.firsts (n, λ i. (c.type-inv.firsts i).fits), c.first-round.ensures.grew.more c.round-test.true)
+    let n : length c.first_round.new.firsts ≡ length c.args.firsts.now = search rules in
+    omega (arith, size_below (length c.args.firsts.now) c.first_round.new.firsts (n, λ i. (c.type_inv.firsts i).fits), c.first_round.ensures.grew.more c.round-test.true)
 
 pub round-preserved : goal.round-preserved
 round-preserved c = λ g s.
-    reached_more (c.round.invariant g s) c.first-round.new.firsts (c.first-round.ensures.value g s) (c.first-round.ensures.grew.more c.round-test.true)
+    reached_more (c.round.invariant g s) c.first_round.new.firsts (c.first_round.ensures.value g s) (c.first_round.ensures.grew.more c.round-test.true)
 
 pub returns : goal.returns
 returns c = λ g s.
-    let same : c.first-round.new.firsts ≡ c.round.firsts = c.first-round.ensures.grew.same c.round-test.false in
-    let rest : first_round g c.args.nullable c.round.firsts ≡ c.round.firsts = sym (c.first-round.ensures.value g s) ∙ same in
-    let n : length c.first-round.new.firsts ≡ length c.args.firsts.now = search rules in
+    let same : c.first_round.new.firsts ≡ c.round.firsts = c.first_round.ensures.grew.same c.round-test.false in
+    let rest : first_round g c.args.nullable c.round.firsts ≡ c.round.firsts = sym (c.first_round.ensures.value g s) ∙ same in
+    let n : length c.first_round.new.firsts ≡ length c.args.firsts.now = search rules in
     let fits : size c.round.firsts ≤ 64 * length c.args.firsts.now =
-    omega (arith, size_below (length c.args.firsts.now) c.first-round.new.firsts (n, λ i. (c.type-inv.firsts i).fits), ap size same) in
+    omega (arith, size_below (length c.args.firsts.now) c.first_round.new.firsts (n, λ i. (c.type_inv.firsts i).fits), ap size same) in
     same ∙ reached_rest (c.round.invariant g s) rest (64 * length c.args.firsts.now) fits

@@ -7,8 +7,8 @@ use Rattle.grammar.proofs.analysis.first_rule.Goals as goal
 pub returns : goal.returns
 returns c = record {
   value = λ g s h.
-      let row = rule_read (opening c.args.nullable c.args.firsts.now) c.row-opening-signs.ensures s c.args.rule c.first-of.ensures h in
-      let left = c.left-of.ensures ∙ s.holds.lefts c.args.rule h in
+      let row = rule_read (opening c.args.nullable c.args.firsts.now) c.row_opening-signs.ensures s c.args.rule c.first_of.ensures h in
+      let left = c.left_of.ensures ∙ s.holds.lefts c.args.rule h in
       c.put.ensures.value ∙ ap₂ (or_at c.args.firsts.now) left row;
   grew = c.put.ensures.grew;
 }

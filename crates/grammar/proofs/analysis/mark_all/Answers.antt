@@ -9,15 +9,15 @@ round-init c = λ g s. reached_none (marked_round c.args.marking g) ones c.args.
 
 pub returns-then-next-marks : goal.returns-then-next-marks
 returns-then-next-marks c = λ g s.
-    reached_rest (c.round.invariant g s) (sym (c.mark-round-next.ensures.value g s) ∙ c.if-next-marks.true) 64
+    reached_rest (c.round.invariant g s) (sym (c.mark_round-next.ensures.value g s) ∙ c.if-next-marks.true) 64
     (ones-le 64 c.round.marks (let t : c.round.marks < 2 ^ 64 = search rules in t))
 
 pub round-smaller : goal.round-smaller
 round-smaller c =
-    let t : c.mark-round-next.result < 2 ^ 64 = search rules in
-    omega (arith, up_changed ones c.round.marks _ _ c.mark-round-next.ensures.grew refl c.if-next-marks.false, ones-le 64 c.mark-round-next.result t)
+    let t : c.mark_round-next.result < 2 ^ 64 = search rules in
+    omega (arith, up_changed ones c.round.marks _ _ c.mark_round-next.ensures.grew refl c.if-next-marks.false, ones-le 64 c.mark_round-next.result t)
 
 pub round-preserved : goal.round-preserved
 round-preserved c = λ g s.
-    reached_more (c.round.invariant g s) c.mark-round-next.result (c.mark-round-next.ensures.value g s)
-    (up_changed ones c.round.marks _ _ c.mark-round-next.ensures.grew refl c.if-next-marks.false)
+    reached_more (c.round.invariant g s) c.mark_round-next.result (c.mark_round-next.ensures.value g s)
+    (up_changed ones c.round.marks _ _ c.mark_round-next.ensures.grew refl c.if-next-marks.false)

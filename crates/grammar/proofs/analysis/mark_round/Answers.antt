@@ -12,9 +12,9 @@ loop-rule-init c = (λ g s. refl, inl refl)
 pub loop-rule-preserved : goal.loop-rule-preserved
 loop-rule-preserved c = (
   λ g s. let h : c.loop-rule.rule < length g = omega (arith, s.holds.rules) in
-      c.mark-rule-after.ensures.value g s h ∙ ap (marked c.args.marking g c.loop-rule.rule) (c.loop-rule.invariant.0 g s)
+      c.mark_rule-after.ensures.value g s h ∙ ap (marked c.args.marking g c.loop-rule.rule) (c.loop-rule.invariant.0 g s)
       ∙ sym (counted_more (marked c.args.marking g) c.loop-rule.rule c.args.marks),
-  up_then ones c.args.marks c.loop-rule.after _ c.loop-rule.invariant.1 c.mark-rule-after.ensures.grew,
+  up_then ones c.args.marks c.loop-rule.after _ c.loop-rule.invariant.1 c.mark_rule-after.ensures.grew,
 )
 
 pub returns : goal.returns

@@ -10,10 +10,10 @@ returns-in-Nullable c =
     let M = c.args.marks in
     record {
       value = λ g s h.
-          let row = rule_read (vanishing M) c.row-vanishes.ensures s c.args.rule c.first-of-first.ensures h in
-          let left = c.left-of-name.ensures ∙ s.holds.lefts c.args.rule h in
-          c.mark-if.ensures ∙ pick_same M row (c.bit.ensures ∙ ap bit_of left) ∙ ap (λ m. marked m g c.args.rule M) (sym c.in-Nullable.is);
-      grew = up_marks _ M _ _ c.mark-if.ensures;
+          let row = rule_read (vanishing M) c.row_vanishes.ensures s c.args.rule c.first_of-first.ensures h in
+          let left = c.left_of-name.ensures ∙ s.holds.lefts c.args.rule h in
+          c.mark_if.ensures ∙ pick_same M row (c.bit.ensures ∙ ap bit_of left) ∙ ap (λ m. marked m g c.args.rule M) (sym c.in-Nullable.is);
+      grew = up_marks _ M _ _ c.mark_if.ensures;
     }
 
 pub returns-in-Productive : goal.returns-in-Productive
@@ -21,11 +21,11 @@ returns-in-Productive c =
     let M = c.args.marks in
     record {
       value = λ g s h.
-          let row = rule_read (producing M) c.row-produces.ensures s c.args.rule c.first-of-first.ensures h in
-          let left = c.left-of-name.ensures ∙ s.holds.lefts c.args.rule h in
-          c.mark-if-in-Productive.ensures ∙ pick_same M row (c.bit-in-Productive.ensures ∙ ap bit_of left)
+          let row = rule_read (producing M) c.row_produces.ensures s c.args.rule c.first_of-first.ensures h in
+          let left = c.left_of-name.ensures ∙ s.holds.lefts c.args.rule h in
+          c.mark_if-in-Productive.ensures ∙ pick_same M row (c.bit-in-Productive.ensures ∙ ap bit_of left)
           ∙ ap (λ m. marked m g c.args.rule M) (sym c.in-Productive.is);
-      grew = up_marks _ M _ _ c.mark-if-in-Productive.ensures;
+      grew = up_marks _ M _ _ c.mark_if-in-Productive.ensures;
     }
 
 pub returns-in-Reachable : goal.returns-in-Reachable
@@ -33,9 +33,9 @@ returns-in-Reachable c =
     let M = c.args.marks in
     record {
       value = λ g s h.
-          let row = rule_read named c.row-names.ensures s c.args.rule c.first-of-first.ensures h in
-          let left = c.left-of-name.ensures ∙ s.holds.lefts c.args.rule h in
-          c.mark-if-in-Reachable.ensures ∙ pick_same M (c.test.ensures ∙ ap (λ n. has_bit n M) left) row
+          let row = rule_read named c.row_names.ensures s c.args.rule c.first_of-first.ensures h in
+          let left = c.left_of-name.ensures ∙ s.holds.lefts c.args.rule h in
+          c.mark_if-in-Reachable.ensures ∙ pick_same M (c.test.ensures ∙ ap (λ n. has_bit n M) left) row
           ∙ ap (λ m. marked m g c.args.rule M) (sym c.in-Reachable.is);
-      grew = up_marks _ M _ _ c.mark-if-in-Reachable.ensures;
+      grew = up_marks _ M _ _ c.mark_if-in-Reachable.ensures;
     }

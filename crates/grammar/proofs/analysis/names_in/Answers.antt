@@ -15,8 +15,8 @@ loop-rule-init c = λ g s. refl
 pub loop-rule-preserved : goal.loop-rule-preserved
 loop-rule-preserved c = λ g s.
     let h : c.loop-rule.rule < length g = omega (arith, s.holds.rules) in
-    let row = rule_read named c.row-names.ensures s c.loop-rule.rule c.first-of.ensures h in
-    let left = c.bit-left.ensures ∙ ap bit_of (c.left-of.ensures ∙ s.holds.lefts c.loop-rule.rule h) in
+    let row = rule_read named c.row_names.ensures s c.loop-rule.rule c.first_of.ensures h in
+    let left = c.bit-left.ensures ∙ ap bit_of (c.left_of.ensures ∙ s.holds.lefts c.loop-rule.rule h) in
     ap₂ bit_or (c.loop-rule.invariant g s) (ap₂ bit_or left row) ∙ sym (counted_more (name_rule g) c.loop-rule.rule 0)
 
 pub returns : goal.returns

@@ -3,4 +3,4 @@ use Rattle.grammar.proofs.analysis.nullable.Goals as goal
 
 pub returns : goal.returns
 unfolding nullable
-returns c = c.mark-all.ensures
+returns c = c.mark_all.ensures

@@ -3,4 +3,4 @@ use Rattle.grammar.proofs.analysis.productive.Goals as goal
 
 pub returns : goal.returns
 unfolding productive
-returns c = c.mark-all.ensures
+returns c = c.mark_all.ensures

@@ -3,4 +3,4 @@ use Rattle.grammar.proofs.analysis.reachable.Goals as goal
 
 pub returns : goal.returns
 unfolding reachable
-returns c = c.mark-all.ensures
+returns c = c.mark_all.ensures

@@ -9,7 +9,7 @@ use Rattle.grammar.proofs.analysis.useless.Goals as goal
 pub returns : goal.returns
 unfolding useless unproductive unreachable
 returns c =
-    let names = c.names-in-names.ensures in
+    let names = c.names_in-names.ensures in
     let value = λ (g : Grammar) (s : Shows c.args.table.now g).
     c.lowest.ensures
     ∙ ap₂ lowest (c.without-unproductive.ensures ∙ ap₂ without_bits (names g s) (c.productive.ensures g s))

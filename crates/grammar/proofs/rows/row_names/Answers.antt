@@ -14,7 +14,7 @@ returns-then-code-ge-COMPLETE c = walked_complete c.loop-place.invariant _ (omeg
 pub loop-place-preserved : goal.loop-place-preserved
 loop-place-preserved c =
     walked_more c.loop-place.invariant _ (omega arith)
-    (λ β. ap (λ m. bit_or (bit_or c.loop-place.names m) (named β)) c.name-mark-names.ensures ∙ sym (named_code c.loop-place.names _ β))
+    (λ β. ap (λ m. bit_or (bit_or c.loop-place.names m) (named β)) c.name_mark-names.ensures ∙ sym (named_code c.loop-place.names _ β))
 
 pub returns : goal.returns
 returns c = walked_past c.loop-place.invariant _ (omega arith)

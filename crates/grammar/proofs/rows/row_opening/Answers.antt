@@ -11,10 +11,10 @@ pub returns-then-code-ge-COMPLETE : goal.returns-then-code-ge-COMPLETE
 unfolding opening
 returns-then-code-ge-COMPLETE c = walked_complete c.loop-place.invariant _ (omega arith) (sym (or_zero_r _))
 
-pub returns-then-code-lt-FIRST-NAME : goal.returns-then-code-lt-FIRST-NAME
-returns-then-code-lt-FIRST-NAME c =
+pub returns-then-code-lt-FIRST_NAME : goal.returns-then-code-lt-FIRST_NAME
+returns-then-code-lt-FIRST_NAME c =
     walked_stop c.loop-place.invariant _ (omega arith)
-    (λ β. c.with.ensures ∙ ap (bit_or c.loop-place.signs) (sym (opening_sign c.args.nullable c.args.firsts.now _ β c.if-code-lt-FIRST-NAME.true)))
+    (λ β. c.with.ensures ∙ ap (bit_or c.loop-place.signs) (sym (opening_sign c.args.nullable c.args.firsts.now _ β c.if-code-lt-FIRST_NAME.true)))
 
 pub returns-then-not-test : goal.returns-then-not-test
 returns-then-not-test c =

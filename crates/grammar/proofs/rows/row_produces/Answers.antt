@@ -10,15 +10,15 @@ pub returns-then-code-ge-COMPLETE : goal.returns-then-code-ge-COMPLETE
 unfolding producing
 returns-then-code-ge-COMPLETE c = walked_complete c.loop-place.invariant _ (omega arith) refl
 
-pub returns-then-not-comes-to-signs : goal.returns-then-not-comes-to-signs
-returns-then-not-comes-to-signs c =
+pub returns-then-not-comes_to_signs : goal.returns-then-not-comes_to_signs
+returns-then-not-comes_to_signs c =
     walked_stop c.loop-place.invariant _ (omega arith)
-    (λ β. sym (producing_code c.args.productive _ β ∙ ap (λ b. b && producing c.args.productive β) (sym c.if-not-comes-to-signs.ensures)))
+    (λ β. sym (producing_code c.args.productive _ β ∙ ap (λ b. b && producing c.args.productive β) (sym c.if-not-comes_to_signs.ensures)))
 
 pub loop-place-preserved : goal.loop-place-preserved
 loop-place-preserved c =
     walked_more c.loop-place.invariant _ (omega arith)
-    (λ β. sym (producing_code c.args.productive _ β ∙ ap (λ b. b && producing c.args.productive β) (sym c.if-not-comes-to-signs.ensures)))
+    (λ β. sym (producing_code c.args.productive _ β ∙ ap (λ b. b && producing c.args.productive β) (sym c.if-not-comes_to_signs.ensures)))
 
 pub returns : goal.returns
 returns c = walked_past c.loop-place.invariant _ (omega arith)

@@ -10,15 +10,15 @@ pub returns-then-code-ge-COMPLETE : goal.returns-then-code-ge-COMPLETE
 unfolding vanishing
 returns-then-code-ge-COMPLETE c = walked_complete c.loop-place.invariant _ (omega arith) refl
 
-pub returns-then-not-can-vanish : goal.returns-then-not-can-vanish
-returns-then-not-can-vanish c =
+pub returns-then-not-can_vanish : goal.returns-then-not-can_vanish
+returns-then-not-can_vanish c =
     walked_stop c.loop-place.invariant _ (omega arith)
-    (λ β. sym (vanishing_code c.args.nullable _ β ∙ ap (λ b. b && vanishing c.args.nullable β) (sym c.if-not-can-vanish.ensures)))
+    (λ β. sym (vanishing_code c.args.nullable _ β ∙ ap (λ b. b && vanishing c.args.nullable β) (sym c.if-not-can_vanish.ensures)))
 
 pub loop-place-preserved : goal.loop-place-preserved
 loop-place-preserved c =
     walked_more c.loop-place.invariant _ (omega arith)
-    (λ β. sym (vanishing_code c.args.nullable _ β ∙ ap (λ b. b && vanishing c.args.nullable β) (sym c.if-not-can-vanish.ensures)))
+    (λ β. sym (vanishing_code c.args.nullable _ β ∙ ap (λ b. b && vanishing c.args.nullable β) (sym c.if-not-can_vanish.ensures)))
 
 pub returns : goal.returns
 returns c = walked_past c.loop-place.invariant _ (omega arith)

@@ -5,26 +5,26 @@ use Rattle.grammar.specs.Spelling.{byte_ok, rules_ok}
 use Rattle.grammar.proofs.Rules.{rules_short, stop_head, stop_right, rules_more, rules_all}
 use Rattle.grammar.proofs.spelling.are_rules.Goals as goal
 
-pub returns-in-default : goal.returns-in-default
-returns-in-default c = sym (rules_short c.rule.left c.rule.room c.rule.rest.now c.rule-test.true (search rules)) ∙ c.rule.invariant
+pub returns-in_default : goal.returns-in_default
+returns-in_default c = sym (rules_short c.rule.left c.rule.room c.rule.rest.now c.rule-test.true (search rules)) ∙ c.rule.invariant
 
-pub returns-then-not-is-head : goal.returns-then-not-is-head
-returns-then-not-is-head c =
-    sym (stop_head c.rule.left c.rule.room c.rule.rest.now _ c.rule-test.true (search rules) (take_rest c.rule.rest.now 2) (sym c.if-not-is-head.ensures))
+pub returns-then-not-is_head : goal.returns-then-not-is_head
+returns-then-not-is_head c =
+    sym (stop_head c.rule.left c.rule.room c.rule.rest.now _ c.rule-test.true (search rules) (take_rest c.rule.rest.now 2) (sym c.if-not-is_head.ensures))
     ∙ c.rule.invariant
 
-pub returns-then-not-all-right : goal.returns-then-not-all-right
-returns-then-not-all-right c =
+pub returns-then-not-all_right : goal.returns-then-not-all_right
+returns-then-not-all_right c =
     sym (stop_right c.rule.left c.rule.room c.rule.rest.now _ c.rule-test.true (search rules) (take_rest c.rule.rest.now 2)
-    (sym c.if-not-is-head.ensures) (ap (every byte_ok) (sym c.split-at.ensures.front) ∙ sym c.if-not-all-right.ensures))
+    (sym c.if-not-is_head.ensures) (ap (every byte_ok) (sym c.split_at.ensures.front) ∙ sym c.if-not-all_right.ensures))
     ∙ c.rule.invariant
 
 pub rule-preserved : goal.rule-preserved
 rule-preserved c =
-    ap (rules_ok (c.rule.left - 1) (c.rule.room - get_or c.rule.rest.now 1 0)) c.split-at.ensures.back
+    ap (rules_ok (c.rule.left - 1) (c.rule.room - get_or c.rule.rest.now 1 0)) c.split_at.ensures.back
     ∙ sym (rules_more c.rule.left c.rule.room c.rule.rest.now _ c.rule-test.true (search rules) (take_rest c.rule.rest.now 2)
-    (sym c.if-not-is-head.ensures) (ap (every byte_ok) (sym c.split-at.ensures.front) ∙ sym c.if-not-all-right.ensures))
+    (sym c.if-not-is_head.ensures) (ap (every byte_ok) (sym c.split_at.ensures.front) ∙ sym c.if-not-all_right.ensures))
     ∙ c.rule.invariant
 
 pub returns : goal.returns
-returns c = c.is-empty.ensures ∙ sym (rules_all c.rule.left c.rule.room c.rule.rest.now c.rule-test.false) ∙ c.rule.invariant
+returns c = c.is_empty.ensures ∙ sym (rules_all c.rule.left c.rule.room c.rule.rest.now c.rule-test.false) ∙ c.rule.invariant

@@ -6,10 +6,10 @@ use Rattle.items.proofs.sets.action_at.Goals as goal
 pub returns-in-Some : goal.returns-in-Some
 returns-in-Some c g s = action_some _ _ _ (c.in-Some.ensures g s)
 
-pub returns-then-can-shift : goal.returns-then-can-shift
+pub returns-then-can_shift : goal.returns-then-can_shift
 unfolding action_of
-returns-then-can-shift c g s = ap (action_of []) (c.if-can-shift.ensures g s) ∙ action_none _ _ (sym c.in-default.is ∙ c.reduction.ensures g s)
+returns-then-can_shift c g s = ap (action_of []) (c.if-can_shift.ensures g s) ∙ action_none _ _ (sym c.in_default.is ∙ c.reduction.ensures g s)
 
-pub returns-else-can-shift : goal.returns-else-can-shift
+pub returns-else-can_shift : goal.returns-else-can_shift
 unfolding action_of
-returns-else-can-shift c g s = ap (action_of []) (c.if-can-shift.ensures g s) ∙ action_none _ _ (sym c.in-default.is ∙ c.reduction.ensures g s)
+returns-else-can_shift c g s = ap (action_of []) (c.if-can_shift.ensures g s) ∙ action_none _ _ (sym c.in_default.is ∙ c.reduction.ensures g s)

@@ -11,7 +11,7 @@ loop-place-init c g s = c.empty-next.ensures
 pub loop-place-preserved : goal.loop-place-preserved
 loop-place-preserved c g s =
     counted_then (advance_place_lem g c.args.symbol c.args.set.now.words) c.loop-place.place _ _ _ (c.loop-place.invariant g s)
-    (c.advance-place.ensures g s (omega (arith, s.holds.places)))
+    (c.advance_place.ensures g s (omega (arith, s.holds.places)))
 
 pub returns : goal.returns
 unfolding advanced_set

@@ -6,11 +6,11 @@ use Rattle.items.specs.Sets.{begin_rule}
 use Rattle.items.proofs.Codes.{begun_none}
 use Rattle.items.proofs.sets.begin_rules.Goals as goal
 
-pub returns-then-not-begins-any : goal.returns-then-not-begins-any
-returns-then-not-begins-any c = record {
+pub returns-then-not-begins_any : goal.returns-then-not-begins_any
+returns-then-not-begins_any c = record {
   value = λ g s h.
       sym (counted_still (begin_rule g c.args.place c.args.ahead) (length g) c.args.set.now
-      (λ k l. begun_none s c.args.place c.args.ahead k c.args.set.now h l c.if-not-begins-any.ensures));
+      (λ k l. begun_none s c.args.place c.args.ahead k c.args.set.now h l c.if-not-begins_any.ensures));
   grew = grew_none size _;
 }
 

@@ -10,17 +10,17 @@ round-init c g s a = reached_none (close_round_lem g) size c.args.set.now
 
 pub round-smaller : goal.round-smaller
 round-smaller c =
-    let after = c.close-round.new.set in
-    omega (arith, size_below (length after) after (refl, λ i. (c.type-inv.set i).fits), c.close-round.ensures.grew.more c.round-test.true)
+    let after = c.close_round.new.set in
+    omega (arith, size_below (length after) after (refl, λ i. (c.type_inv.set i).fits), c.close_round.ensures.grew.more c.round-test.true)
 
 pub round-preserved : goal.round-preserved
 round-preserved c g s a =
-    reached_more (c.round.invariant g s a) c.close-round.new.set (c.close-round.ensures.value g s a) (c.close-round.ensures.grew.more c.round-test.true)
+    reached_more (c.round.invariant g s a) c.close_round.new.set (c.close_round.ensures.value g s a) (c.close_round.ensures.grew.more c.round-test.true)
 
 pub returns : goal.returns
 unfolding closure
 returns c g s a l =
-    let after = c.close-round.new.set in
-    let same = c.close-round.ensures.grew.same c.round-test.false in
-    let fits : size c.round.set ≤ 12288 = omega (arith, size_below (length after) after (refl, λ i. (c.type-inv.set i).fits), ap size same, l) in
-    same ∙ reached_rest (c.round.invariant g s a) (sym (c.close-round.ensures.value g s a) ∙ same) 12288 fits
+    let after = c.close_round.new.set in
+    let same = c.close_round.ensures.grew.same c.round-test.false in
+    let fits : size c.round.set ≤ 12288 = omega (arith, size_below (length after) after (refl, λ i. (c.type_inv.set i).fits), ap size same, l) in
+    same ∙ reached_rest (c.round.invariant g s a) (sym (c.close_round.ensures.value g s a) ∙ same) 12288 fits

@@ -13,8 +13,8 @@ pub loop-place-preserved : goal.loop-place-preserved
 loop-place-preserved c = (
   λ g s a.
       counted_then (close_place g) c.loop-place.place _ _ _ (c.loop-place.invariant.0 g s a)
-      (c.close-place-changed.ensures.value g s a (omega (arith, s.holds.places))),
-  grew_then c.loop-place.invariant.1 c.close-place-changed.ensures.grew,
+      (c.close_place-changed.ensures.value g s a (omega (arith, s.holds.places))),
+  grew_then c.loop-place.invariant.1 c.close_place-changed.ensures.grew,
 )
 
 pub returns : goal.returns

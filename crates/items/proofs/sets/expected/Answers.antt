@@ -12,7 +12,7 @@ loop-place-init c g s t = has_zero t
 
 pub loop-place-preserved : goal.loop-place-preserved
 loop-place-preserved c g s t =
-    acts_more g c.args.set.now.words t c.loop-place.place _ _ (c.loop-place.invariant g s t) (c.expected-at-signs.ensures g s (omega (arith, s.holds.places)) t)
+    acts_more g c.args.set.now.words t c.loop-place.place _ _ (c.loop-place.invariant g s t) (c.expected_at-signs.ensures g s (omega (arith, s.holds.places)) t)
 
 pub returns : goal.returns
 unfolding reduce_at shift_at

@@ -7,14 +7,14 @@ use Rattle.items.proofs.sets.expected_at.Goals as goal
 pub returns-then-symbol-eq-COMPLETE : goal.returns-then-symbol-eq-COMPLETE
 returns-then-symbol-eq-COMPLETE c g s h t =
     acts_complete _ _ t c.if-symbol-eq-COMPLETE.true
-    ∙ ap₂ (λ x w. Acts x w t) (c.symbol-at-symbol.ensures ∙ symbol_shown s c.args.place h) c.at-here.ensures
+    ∙ ap₂ (λ x w. Acts x w t) (c.symbol_at-symbol.ensures ∙ symbol_shown s c.args.place h) c.at-here.ensures
 
 pub returns-then-here-eq0 : goal.returns-then-here-eq0
 returns-then-here-eq0 c g s h t =
     acts_none _ _ t c.if-symbol-eq-COMPLETE.false (⊎_elim (λ e. inl e) (λ e. inr e.1) c.then-here-eq0.either)
-    ∙ ap₂ (λ x w. Acts x w t) (c.symbol-at-symbol.ensures ∙ symbol_shown s c.args.place h) c.at-here.ensures
+    ∙ ap₂ (λ x w. Acts x w t) (c.symbol_at-symbol.ensures ∙ symbol_shown s c.args.place h) c.at-here.ensures
 
 pub returns : goal.returns
 returns c g s h t =
     ap (has_bit t) c.bit.ensures ∙ acts_sign _ _ t (omega arith) c.if-here-eq0.false
-    ∙ ap₂ (λ x w. Acts x w t) (c.symbol-at-symbol.ensures ∙ symbol_shown s c.args.place h) c.at-here.ensures
+    ∙ ap₂ (λ x w. Acts x w t) (c.symbol_at-symbol.ensures ∙ symbol_shown s c.args.place h) c.at-here.ensures

@@ -14,7 +14,7 @@ pub returns-then-reduces : goal.returns-then-reduces
 unfolding first_rule_lem
 returns-then-reduces c g s =
     let h : c.loop-place.place < places g = omega (arith, s.holds.places) in
-    ap Some (c.owner-of.ensures ∙ s.holds.owners c.loop-place.place h)
+    ap Some (c.owner_of.ensures ∙ s.holds.owners c.loop-place.place h)
     ∙ ap first_rule_lem (reduce_found g c.args.set.now c.args.ahead c.loop-place.place (c.loop-place.invariant g s) (c.if-reduces.ensures g s h) h)
 
 pub loop-place-preserved : goal.loop-place-preserved

@@ -6,8 +6,8 @@ use Rattle.notation.proofs.said.load.Goals as goal
 
 pub returns : goal.returns
 returns c =
-    let count : c.in-ok-byte.field-0 ≡ length (vec_items c.args.notation.now.rules) + 1 =
-    c.in-ok-byte.ensures ∙ ap (λ n. n + 1) (c.len-count.ensures ∙ c.args.notation.now.rules.ok.0) in
-    let all : vec_items c.say-rules.new.bytes ≡ load_said c.args.codes.now (vec_items c.args.notation.now.rules) =
-    load_said_all _ _ _ _ _ _ c.in-ok-bytes.ensures.made.0 c.in-ok-say-rules.ensures count c.as-slice.ensures.value in
+    let count : c.in_ok-byte.field-0 ≡ length (vec_items c.args.notation.now.rules) + 1 =
+    c.in_ok-byte.ensures ∙ ap (λ n. n + 1) (c.len-count.ensures ∙ c.args.notation.now.rules.ok.0) in
+    let all : vec_items c.say_rules.new.bytes ≡ load_said c.args.codes.now (vec_items c.args.notation.now.rules) =
+    load_said_all _ _ _ _ _ _ c.in_ok-bytes.ensures.made.0 c.in_ok-say_rules.ensures count c.as_slice.ensures.value in
     record { bytes = all; meaning = all ∙ load_said_meant c.args.codes.now (vec_items c.args.notation.now.rules) }

@@ -5,7 +5,7 @@ use Rattle.notation.proofs.said.say_symbols.Goals as goal
 
 pub loop-word-preserved : goal.loop-word-preserved
 loop-word-preserved c =
-    let ok : is_ok c.push.result ≡ true = ap is_ok c.in-ok-push.was in
+    let ok : is_ok c.push.result ≡ true = ap is_ok c.in_ok-push.was in
     map_said_more _ _ _ _ _ _ _ _ c.loop-word.invariant c.loop-word-test.true c.code.ensures c.push.ensures.items ok
 
 pub returns : goal.returns

@@ -9,25 +9,25 @@ turn-init c g s a = sym (advances_none g c.args.text.now (config_of c.args.stack
 pub turn-preserved : goal.turn-preserved
 turn-preserved c g s a =
     c.turn.invariant g s a
-    ∙ advances_shifted g c.args.text.now c.turn.moves _ _ _ (omega arith) (c.move-once.ensures g s a) c.in-Shifted.is
+    ∙ advances_shifted g c.args.text.now c.turn.moves _ _ _ (omega arith) (c.move_once.ensures g s a) c.in-Shifted.is
 
 pub returns-in-Reduced : goal.returns-in-Reduced
 unfolding advanced_by
 returns-in-Reduced c g s a =
     c.turn.invariant g s a
-    ∙ advances_reduced g c.args.text.now c.turn.moves _ _ _ (omega arith) (c.move-once.ensures g s a) _ c.in-Reduced.is
+    ∙ advances_reduced g c.args.text.now c.turn.moves _ _ _ (omega arith) (c.move_once.ensures g s a) _ c.in-Reduced.is
 
 pub returns-in-Stuck : goal.returns-in-Stuck
 unfolding advanced_by
 returns-in-Stuck c g s a =
     c.turn.invariant g s a
-    ∙ advances_stuck g c.args.text.now c.turn.moves _ _ _ (omega arith) (c.move-once.ensures g s a) c.in-Stuck.is
+    ∙ advances_stuck g c.args.text.now c.turn.moves _ _ _ (omega arith) (c.move_once.ensures g s a) c.in-Stuck.is
 
 pub returns-in-Full : goal.returns-in-Full
 unfolding advanced_by
 returns-in-Full c g s a =
     c.turn.invariant g s a
-    ∙ advances_full g c.args.text.now c.turn.moves _ _ _ (omega arith) (c.move-once.ensures g s a) c.in-Full.is
+    ∙ advances_full g c.args.text.now c.turn.moves _ _ _ (omega arith) (c.move_once.ensures g s a) c.in-Full.is
 
 pub returns : goal.returns
 unfolding advanced_by

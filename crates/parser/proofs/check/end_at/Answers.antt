@@ -4,10 +4,10 @@ use Rattle.parser.specs.Drive.{accepted, wrong, ending}
 use Rattle.parser.specs.Told.{ended}
 use Rattle.parser.proofs.check.end_at.Goals as goal
 
-pub returns-then-is-read : goal.returns-then-is-read
+pub returns-then-is_read : goal.returns-then-is_read
 unfolding ended ending
-returns-then-is-read c = ap (λ b. pick b accepted (wrong c.args.state.now.taken)) c.if-is-read.ensures
+returns-then-is_read c = ap (λ b. pick b accepted (wrong c.args.state.now.taken)) c.if-is_read.ensures
 
-pub returns-else-is-read : goal.returns-else-is-read
+pub returns-else-is_read : goal.returns-else-is_read
 unfolding ended ending
-returns-else-is-read c = ap (λ b. pick b accepted (wrong c.args.state.now.taken)) c.if-is-read.ensures
+returns-else-is_read c = ap (λ b. pick b accepted (wrong c.args.state.now.taken)) c.if-is_read.ensures

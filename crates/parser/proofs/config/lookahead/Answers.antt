@@ -7,5 +7,5 @@ returns-then-taken-text c = sym (get_or_past c.args.text.now c.args.taken 24 (om
 
 pub returns : goal.returns
 returns c =
-    c.first-sign.ensures ∙ ap (λ z. get_or z 0 24) (take_rest c.args.text.now c.args.taken)
+    c.first_sign.ensures ∙ ap (λ z. get_or z 0 24) (take_rest c.args.text.now c.args.taken)
     ∙ get_or-drop c.args.taken c.args.text.now 0 24 ∙ ap (λ k. get_or c.args.text.now k 24) (omega arith)

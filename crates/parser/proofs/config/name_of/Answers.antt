@@ -4,6 +4,6 @@ use Rattle.parser.proofs.config.name_of.Goals as goal
 
 pub returns : goal.returns
 returns c g s l =
-    let left = c.left-of.ensures in
+    let left = c.left_of.ensures in
     let small = (sizes g s.fits).left_below c.args.rule l in
-    omega (arith, left, small, s.holds.lefts c.args.rule l, c.saturating-add.ensures)
+    omega (arith, left, small, s.holds.lefts c.args.rule l, c.saturating_add.ensures)

@@ -10,24 +10,24 @@ use Rattle.parser.proofs.config.reduce.Goals as goal
 pub returns-then-not-push : goal.returns-then-not-push
 returns-then-not-push c g s a k =
     told_full c.args.stack.now _ c.args.state.now _ _ _ c.if-not-push.ensures.room c.push.ensures.value
-    (reduce_full g (config_of c.args.stack.now c.args.state.now) c.args.rule _ _ _ (c.symbols-of-count.ensures g s k)
-    c.saturating-sub-base.ensures (c.name-of-name.ensures g s k) (ltb-false _ _ (sym c.if-not-push.ensures.room)))
+    (reduce_full g (config_of c.args.stack.now c.args.state.now) c.args.rule _ _ _ (c.symbols_of-count.ensures g s k)
+    c.saturating_sub-base.ensures (c.name_of-name.ensures g s k) (ltb-false _ _ (sym c.if-not-push.ensures.room)))
 
-pub overflow-add-state : goal.overflow-add-state
-overflow-add-state c =
+pub overflow_add-state : goal.overflow_add-state
+overflow_add-state c =
     let most : length c.args.stack.now * 8 < 9223372036854775808 = search rules in
-    Fits-of_lt (room_counts c.args.stack.now c.saturating-sub-base.result c.if-not-push.ensures.room most)
+    Fits-of_lt (room_counts c.args.stack.now c.saturating_sub-base.result c.if-not-push.ensures.room most)
 
-pub overflow-add-base : goal.overflow-add-base
-overflow-add-base c =
+pub overflow_add-base : goal.overflow_add-base
+overflow_add-base c =
     let most : length c.args.stack.now * 8 < 9223372036854775808 = search rules in
-    Fits-of_lt (room_counts c.args.stack.now c.saturating-sub-base.result c.if-not-push.ensures.room most)
+    Fits-of_lt (room_counts c.args.stack.now c.saturating_sub-base.result c.if-not-push.ensures.room most)
 
 pub returns : goal.returns
 unfolding moved_by stays
 returns c g s a k = record {
-  is = reduce_done g (config_of c.args.stack.now c.args.state.now) c.args.rule _ _ _ (c.symbols-of-count.ensures g s k)
-      c.saturating-sub-base.ensures (c.name-of-name.ensures g s k) _ _ _ (ltb-true _ _ (sym c.if-not-push.ensures.room))
-      c.push.ensures.value (omega arith) (c.items-after-state.ensures g s a);
+  is = reduce_done g (config_of c.args.stack.now c.args.state.now) c.args.rule _ _ _ (c.symbols_of-count.ensures g s k)
+      c.saturating_sub-base.ensures (c.name_of-name.ensures g s k) _ _ _ (ltb-true _ _ (sym c.if-not-push.ensures.room))
+      c.push.ensures.value (omega arith) (c.items_after-state.ensures g s a);
   kept = λ e. absurd (false≢true e);
 }

@@ -12,8 +12,8 @@ returns-then-not-push c g s a k =
     told_full c.args.stack.now _ c.args.state.now _ _ _ c.if-not-push.ensures.room c.push.ensures.value
     (shift_full g (config_of c.args.stack.now c.args.state.now) c.args.sign (ltb-false _ _ (sym c.if-not-push.ensures.room)))
 
-pub overflow-add-state : goal.overflow-add-state
-overflow-add-state c =
+pub overflow_add-state : goal.overflow_add-state
+overflow_add-state c =
     let most : length c.args.stack.now * 8 < 9223372036854775808 = search rules in
     Fits-of_lt (room_counts c.args.stack.now c.args.state.now.height c.if-not-push.ensures.room most)
 
@@ -22,6 +22,6 @@ unfolding moved_by stays
 returns c g s a k = record {
   is = shift_done g (config_of c.args.stack.now c.args.state.now) c.args.sign _ _ _ _
       (ltb-true _ _ (sym c.if-not-push.ensures.room)) c.push.ensures.value (omega arith)
-      (omega (arith, c.saturating-add-state.ensures)) (c.goto-state.ensures.value g s a);
+      (omega (arith, c.saturating_add-state.ensures)) (c.goto-state.ensures.value g s a);
   kept = λ e. absurd (false≢true e);
 }

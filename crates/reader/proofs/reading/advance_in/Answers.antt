@@ -18,6 +18,6 @@ returns c =
           ap (λ (k : ℕ). advance_of g c.args.text.now (config_of (take k (drop a m)) c.args.state.now)) (sym e)
           ∙ c.advance.ensures.rule g shows analysed
           ∙ ap (λ (z : List ℕ). advanced_by c.advance.result (config_of z c.advance.new.state)) (sym (lent_back a n m c.advance.new.stack c.requires long));
-      kept = lent_kept a n m c.advance.new.stack c.requires long (λ i. (c.type-inv.memory i).fits);
+      kept = lent_kept a n m c.advance.new.stack c.requires long (λ i. (c.type_inv.memory i).fits);
       cleared = λ z. lent_cleared a n m c.advance.new.stack c.requires long _ lent (c.advance.ensures.cleared z).stack_is;
     }

@@ -8,11 +8,11 @@ use Rattle.reader.proofs.Loading.{lent_length}
 use Rattle.reader.proofs.ReadTold.{read_unloaded, after_cleared, accepted_told, wrong_told, gave_out_told}
 use Rattle.reader.proofs.reading.read.Goals as goal
 
-pub returns-in-default : goal.returns-in-default
-returns-in-default c = λ l ew ef es. read_unloaded l _ _ _ c.in-default.ensures
+pub returns-in_default : goal.returns-in_default
+returns-in_default c = λ l ew ef es. read_unloaded l _ _ _ c.in_default.ensures
 
-pub store-text-requires : goal.store-text-requires
-store-text-requires c =
+pub store_text-requires : goal.store_text-requires
+store_text-requires c =
     let m = c.args.memory.now in
     let long = lent_length c.args.work (c.args.fuel + c.args.stack) m c.requires.lent in
     let in_work : c.args.fuel ≤ length (take (c.args.work + (c.args.fuel + c.args.stack) - c.args.work) (drop c.args.work m)) = omega (arith, long) in
@@ -32,8 +32,8 @@ returns-in-Accepted c =
     let in_work : c.args.fuel ≤ length (take (c.args.work + (c.args.fuel + c.args.stack) - c.args.work) (drop c.args.work m)) = omega (arith, long) in
     accepted_told c.args.work c.args.fuel c.args.stack m c.args.signs.now c.args.out.now _ g c.check.new.work
     c.in-Some.ensures.0 long (c.check.ensures.cleared in_work)
-    c.tell.result c.store-text.new.memory _ _
-    (c.in-Accepted.ensures.value in_work g shows (c.analyse-analysis.ensures.value g shows)) c.store-text.ensures c.tell.ensures
+    c.tell.result c.store_text.new.memory _ _
+    (c.in-Accepted.ensures.value in_work g shows (c.analyse-analysis.ensures.value g shows)) c.store_text.ensures c.tell.ensures
 
 pub returns-in-Wrong : goal.returns-in-Wrong
 returns-in-Wrong c =

@@ -7,35 +7,35 @@ use Rattle.reader.proofs.RunningTurns.{sofar_none, sofar_more, done_so, refused_
 use Rattle.reader.proofs.run.run.Goals as goal
 
 pub turn-init : goal.turn-init
-turn-init c = (refl, sofar_none _ _ _ c.if-not-sizes-fit.ensures)
+turn-init c = (refl, sofar_none _ _ _ c.if-not-sizes_fit.ensures)
 
-pub returns-then-not-sizes-fit : goal.returns-then-not-sizes-fit
-returns-then-not-sizes-fit c =
+pub returns-then-not-sizes_fit : goal.returns-then-not-sizes_fit
+returns-then-not-sizes_fit c =
     record {
       ran = refl;
       allowed = refl;
-      room = λ short old h. absurd (size_fits _ _ (and_from _ _ (le-leb _ _ short) (bytes_fit _ (λ i. (c.type-inv.text i).fits))) old h (le-leb _ _ short) c.if-not-sizes-fit.ensures);
+      room = λ short old h. absurd (size_fits _ _ (and_from _ _ (le-leb _ _ short) (bytes_fit _ (λ i. (c.type_inv.text i).fits))) old h (le-leb _ _ short) c.if-not-sizes_fit.ensures);
     }
 
 pub returns-in-Done : goal.returns-in-Done
 returns-in-Done c =
     let s = c.turn.invariant.1 in
-    let f = and_from _ _ s.short (bytes_fit _ (λ i. (c.type-inv.text i).fits)) in
+    let f = and_from _ _ s.short (bytes_fit _ (λ i. (c.type_inv.text i).fits)) in
     let r = done_so _ _ _ _ _ _ s _ _ _ c.turn.invariant.0 c.in-Done.ensures.says in
     record { ran = r; allowed = λ old h. may_so _ _ f old h _ _ _ _ r (λ z. omega arith); room = refl }
 
-pub returns-then-not-is-refusal-number : goal.returns-then-not-is-refusal-number
-returns-then-not-is-refusal-number c =
+pub returns-then-not-is_refusal_number : goal.returns-then-not-is_refusal_number
+returns-then-not-is_refusal_number c =
     let s = c.turn.invariant.1 in
-    let f = and_from _ _ s.short (bytes_fit _ (λ i. (c.type-inv.text i).fits)) in
-    let r = refused_so _ _ _ _ _ _ s _ _ _ c.turn.invariant.0 _ false (sym c.if-not-is-refusal-number.ensures) c.in-No.ensures.says in
+    let f = and_from _ _ s.short (bytes_fit _ (λ i. (c.type_inv.text i).fits)) in
+    let r = refused_so _ _ _ _ _ _ s _ _ _ c.turn.invariant.0 _ false (sym c.if-not-is_refusal_number.ensures) c.in-No.ensures.says in
     record { ran = refl; allowed = refl; room = λ _ old h. absurd (no_fault _ _ f old h _ _ _ r) }
 
 pub returns-in-No : goal.returns-in-No
 returns-in-No c =
     let s = c.turn.invariant.1 in
-    let f = and_from _ _ s.short (bytes_fit _ (λ i. (c.type-inv.text i).fits)) in
-    let b = sym c.if-not-is-refusal-number.ensures in
+    let f = and_from _ _ s.short (bytes_fit _ (λ i. (c.type_inv.text i).fits)) in
+    let b = sym c.if-not-is_refusal_number.ensures in
     let less : c.in-No.k < 1000 = ltb-true _ _ (and_parts _ _ b).1 in
     let r = refused_so _ _ _ _ _ _ s _ _ _ c.turn.invariant.0 c.in-No.k true b c.in-No.ensures.says in
     record { ran = r; allowed = λ old h. may_so _ _ f old h _ _ c.in-No.k _ r (λ z. omega arith); room = refl }
@@ -43,7 +43,7 @@ returns-in-No c =
 pub returns-then-many-shown : goal.returns-then-many-shown
 returns-then-many-shown c =
     let s = c.turn.invariant.1 in
-    let f = and_from _ _ s.short (bytes_fit _ (λ i. (c.type-inv.text i).fits)) in
+    let f = and_from _ _ s.short (bytes_fit _ (λ i. (c.type_inv.text i).fits)) in
     record {
       ran = refl;
       allowed = refl;
@@ -51,8 +51,8 @@ returns-then-many-shown c =
           (row_too_long _ _ _ _ _ _ s _ _ _ c.turn.invariant.0 _ c.in-Shows.ensures.says c.step.auto.out (omega arith) f old h);
     }
 
-pub slice-bounds-put-row-end : goal.slice-bounds-put-row-end
-slice-bounds-put-row-end c =
+pub slice_bounds-put_row-end : goal.slice_bounds-put_row-end
+slice_bounds-put_row-end c =
     let few : c.in-Shows.n ≤ 32 = row_few _ _ _ _ _ _ c.turn.invariant.1 _ _ _ c.turn.invariant.0 _ c.in-Shows.ensures.says c.step.auto.out in
     let long : length c.step.new.out ≡ 32 = c.step.auto.out ∙ c.turn.invariant.0 in
     omega arith
@@ -62,5 +62,5 @@ turn-preserved c =
     let e : c.in-Shows.n - 0 ≡ c.in-Shows.n = omega arith in (
       c.step.auto.out ∙ c.turn.invariant.0,
       sofar_more _ _ _ _ _ _ c.turn.invariant.1 _ _ _ c.turn.invariant.0 _ c.in-Shows.ensures.says c.step.auto.out _ _
-          c.step.auto.memory c.put-row.auto.shown (omega arith) (ap (λ (k : ℕ). take k c.step.new.out) e) c.put-row.ensures,
+          c.step.auto.memory c.put_row.auto.shown (omega arith) (ap (λ (k : ℕ). take k c.step.new.out) e) c.put_row.ensures,
     )

@@ -10,7 +10,7 @@ returns c =
     let o : length c.args.self.now.owners ≡ 192 = search rules in
     let f : length c.args.self.now.firsts ≡ 64 = search rules in
     let l : length c.args.self.now.lefts ≡ 64 = search rules in
-    let copied = c.copy-from-slice.ensures.after in
+    let copied = c.copy_from_slice.ensures.after in
     record {
       rules = refl;
       places = refl;

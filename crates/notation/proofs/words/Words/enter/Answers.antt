@@ -6,11 +6,11 @@ use Rattle.notation.proofs.words.Words.enter.Goals as goal
 pub returns-in-Some : goal.returns-in-Some
 returns-in-Some c = record { kept = search (rules, take_all); stands = c.in-Some.ensures }
 
-pub returns-in-err-from-str : goal.returns-in-err-from-str
-returns-in-err-from-str c = record { kept = search (rules, take_all); stands = search rules }
+pub returns-in_err-from_str : goal.returns-in_err-from_str
+returns-in_err-from_str c = record { kept = search (rules, take_all); stands = search rules }
 
-pub returns-in-err-push : goal.returns-in-err-push
-returns-in-err-push c = record { kept = search (rules, kept_push); stands = search rules }
+pub returns-in_err-push : goal.returns-in_err-push
+returns-in_err-push c = record { kept = search (rules, kept_push); stands = search rules }
 
 pub returns : goal.returns
 returns c =
@@ -18,6 +18,6 @@ returns c =
     record {
       kept = search (rules, kept_push);
       stands =
-          pushed_there string_bytes (vec_items c.args.self.now.all) (vec_items c.push.new.self) c.in-ok-from-str.field-0
-          c.len-number.result c.args.word.now [] e c.in-ok-push.ensures.items c.in-ok-from-str.ensures.ok;
+          pushed_there string_bytes (vec_items c.args.self.now.all) (vec_items c.push.new.self) c.in_ok-from_str.field-0
+          c.len-number.result c.args.word.now [] e c.in_ok-push.ensures.items c.in_ok-from_str.ensures.ok;
     }

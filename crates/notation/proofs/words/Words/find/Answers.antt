@@ -4,11 +4,11 @@ use Rattle.notation.proofs.words.Words.find.Goals as goal
 
 pub returns-then-eq : goal.returns-then-eq
 returns-then-eq c =
-    found_here _ _ _ _ _ _ _ _ (search rules) c.index.ensures c.as-str.ensures.value c.eq.ensures (search rules)
+    found_here _ _ _ _ _ _ _ _ (search rules) c.index.ensures c.as_str.ensures.value c.eq.ensures (search rules)
 
 pub loop-number-preserved : goal.loop-number-preserved
 loop-number-preserved c =
-    not_before_more _ _ _ _ _ _ _ _ c.loop-number.invariant (search rules) c.index.ensures c.as-str.ensures.value c.eq.ensures (search rules)
+    not_before_more _ _ _ _ _ _ _ _ c.loop-number.invariant (search rules) c.index.ensures c.as_str.ensures.value c.eq.ensures (search rules)
 
 pub returns : goal.returns
 returns c = not_before_all _ _ _ _ _ c.loop-number.invariant (search rules)
