@@ -4,7 +4,7 @@
 --     decided      what can be done behind a stack with t ahead is decided
 use Rattle.std.proofs.Common.{◌≡◌, ℕ, zero, suc, ◌<◌, Bool, true, false, not, ◌&&◌, eqb, ltb, ◌⊎◌, List, [], ◌∷◌, get_or, refl, ap, ◌∙◌, subst, subst₂, inl, inr, ⊎_elim, true≢false, arith}
 use mathlib.Core.Bool.{false≢true}
-use Rattle.std.proofs.lemmas.Bool.{and_parts, and_from, cases_Bool, cases_eq, eqb-true, eqb-false, eq-eqb, ne_eqb, ltb-true, both_ways, not_true, not_from_false}
+use Rattle.std.proofs.lemmas.Bool.{and_parts, and_from, cases_Bool, cases_eq, eqb-true, eqb-false, eq-eqb, ne_eqb, ltb-true, both_ways, not-true, not_from_false}
 use Rattle.words.specs.Bits.{has_bit}
 use Rattle.words.specs.Iter.{counted}
 use Rattle.words.proofs.BitLaws.{nonzero_has, has_nonzero}
@@ -119,7 +119,7 @@ module _ (g : Grammar) (fits : a_grammar g ≡ true) (useful : AllUseful g) (γ 
       let same : next_code (rest g f.0) ≡ t = eqb-true _ _ b.0 in
       let n = code_sign (rest g f.0) (omega (arith, same, ltb-true t 24 k.0)) in
       let row : rest g f.0 ≡ sign t ∷ n.0 = n.1 ∙ ap (λ c. sign c ∷ n.0) same in
-      let u = nonzero_has (get_or items f.0 0) (eqb-false _ _ (not_true _ b.1)) in
+      let u = nonzero_has (get_or items f.0 0) (eqb-false _ _ (not-true _ b.1)) in
       (owner g f.0, n.0, u.0, subst (λ δ. Valid g γ (owner g f.0) δ u.0) row (set_sound g fits useful γ known f.0 u.0 u.1))
 
   pub shift_complete : shift_at g items t ≡ false → Due g γ (sign t) → ⊥
