@@ -8,8 +8,8 @@ use Rattle.conflicts.proofs.clashes.begun_both.Goals.{then-passes_at, else-passe
 pub returns : goal.returns
 returns c =
     let passed : c.if-passes_at.passed < 2 ^ 39 = elim c.if-passes_at.branch [
-      | then-passes-at w ↦ omega (arith, w.passed-is, both_below c.args.here c.ranges.here.fits)
-      | else-passes-at w ↦ omega (arith, w.passed-is)
+      | then-passes_at w ↦ omega (arith, w.passed-is, both_below c.args.here c.ranges.here.fits)
+      | else-passes_at w ↦ omega (arith, w.passed-is)
     ] in
     let common : bit_and c.behind_at.result c.low.result < 2 ^ 39 =
     omega (arith, and_le_r c.behind_at.result c.low.result, c.low.ensures, mod_below c.args.there (2 ^ 25) (lit< tt)) in
