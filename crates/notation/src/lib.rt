@@ -5,4 +5,4 @@ pub mod said;
 pub mod shown;
 #[cfg(test)]
 mod tests;
-pub mod words;
+pub mod lexicon;

@@ -5,7 +5,7 @@ ghost use Rattle.grammar.specs.Spelling.{byte_ok};
 ghost use Rattle.notation.specs.Lookups.{Added, Finds};
 
 use crate::fault::Fault;
-use crate::words::Words;
+use crate::lexicon::Words;
 use std::alloc::Global;
 
 // The rules that a grammar may have besides the first, which is made up, and the symbols on their right sides together.

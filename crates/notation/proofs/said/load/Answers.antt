@@ -9,5 +9,5 @@ returns c =
     let count : c.in_ok-byte.field-0 ≡ length (vec_items c.args.notation.now.rules) + 1 =
     c.in_ok-byte.ensures ∙ ap (λ n. n + 1) (c.len-count.ensures ∙ c.args.notation.now.rules.ok.0) in
     let all : vec_items c.say_rules.new.bytes ≡ load_said c.args.codes.now (vec_items c.args.notation.now.rules) =
-    load_said_all _ _ _ _ _ _ c.in_ok-bytes.ensures.made.0 c.in_ok-say_rules.ensures count c.as_slice.ensures.value in
+    load_said_all _ _ _ _ _ _ c.in_ok-bytes.ensures.items c.in_ok-say_rules.ensures count c.as_slice.ensures.value in
     record { bytes = all; meaning = all ∙ load_said_meant c.args.codes.now (vec_items c.args.notation.now.rules) }

@@ -1,7 +1,7 @@
 use Rattle.std.proofs.Common.{◌≡◌, [], length, vec_items, string_bytes, rules}
 use Rattle.std.proofs.lemmas.List.{take_all}
 use Rattle.notation.proofs.Looking.{kept_push, pushed_there}
-use Rattle.notation.proofs.words.Words.enter.Goals as goal
+use Rattle.notation.proofs.lexicon.Words.enter.Goals as goal
 
 pub returns-in-Some : goal.returns-in-Some
 returns-in-Some c = record { kept = search (rules, take_all); stands = c.in-Some.ensures }

@@ -1,6 +1,6 @@
 use Rattle.std.proofs.Common.{rules}
 use Rattle.notation.proofs.Looking.{mapped_at, mapped_past}
-use Rattle.notation.proofs.words.Words.word.Goals as goal
+use Rattle.notation.proofs.lexicon.Words.word.Goals as goal
 
 pub returns-in-Some : goal.returns-in-Some
 returns-in-Some c = search (rules, mapped_at)
