@@ -116,7 +116,7 @@ fn start(rt: &HostRuntime) -> anyhow::Result<()> {
         let text = io::read_to_string(rt.alloc(), rt.stdin())?;
         return converse(rt, text.as_str());
     };
-    if path == "--help" {
+    if path.as_str() == "--help" {
         rt.println(HELP)?;
         return Ok(());
     }

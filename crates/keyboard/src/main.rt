@@ -63,7 +63,7 @@ fn run(rt: &HostRuntime) -> anyhow::Result<()> {
     let Some(path) = args.next() else {
         return converse_input(rt);
     };
-    if path == "--help" {
+    if path.as_str() == "--help" {
         rt.println(help::USAGE)?;
         rt.println(help::LINES)?;
         return Ok(());
