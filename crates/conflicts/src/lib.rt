@@ -1,4 +1,5 @@
 // Conflicts of LR(1) items: where they show, that without them one look ahead is enough, and how the first is found.
+#![tactic(auto)]
 
 pub mod clashes;
 

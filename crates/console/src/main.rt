@@ -1,5 +1,7 @@
 // The machine's own commands, as numbers: each line of the input is one, and what the machine does with it is printed. For trying the machine itself;
 // the keyboard program is the one for people.
+#![tactic(auto)]
+
 use anyhow::anyhow;
 use notation::shown::reason;
 use reader::run::run;

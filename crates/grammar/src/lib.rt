@@ -1,4 +1,6 @@
 // Grammars: what comes of them, how they are spelled, and their places by number.
+#![tactic(auto)]
+
 pub mod analysis;
 pub mod rows;
 pub mod spelling;

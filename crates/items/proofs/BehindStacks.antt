@@ -1,5 +1,5 @@
 -- The set that is computed for a stack is the set of it, and exact.
-use Rattle.std.proofs.Common.{◌≡◌, ℕ, ◌<◌, true, ◌↔◌, List, [], ◌∷◌, get_or, sym, ◌∙◌, subst, ap₂}
+use Rattle.std.proofs.Common.{◌≡◌, ℕ, true, ◌↔◌, List, [], ◌∷◌, get_or, sym, ◌∙◌, subst, ap₂}
 use Rattle.words.specs.Bits.{has_bit}
 use Rattle.grammar.specs.Grammar.{Sym, Grammar, a_grammar}
 use Rattle.grammar.specs.Spelling.{sym_spelled}

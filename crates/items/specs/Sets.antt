@@ -1,5 +1,5 @@
 -- Item sets: a word for each place, a bit in it for each lookahead. Start, closure, goto, and the set of a stack. Assumes nothing: these are definitions.
-use Rattle.std.specs.Prelude.{◌≡◌, ℕ, suc, ◌^◌, ◌<◌, ◌≤◌, Bool, true, false, not, ◌&&◌, List, [], ◌∷◌, length, set, replicate, ◌==◌, bit_or, nat_lt, slice_index, slice_set}
+use Rattle.std.specs.Prelude.{◌≡◌, ℕ, suc, ◌^◌, ◌<◌, ◌≤◌, Bool, true, false, not, ◌&&◌, List, [], ◌∷◌, length, replicate, ◌==◌, bit_or, nat_lt, slice_index, slice_set}
 use Rattle.words.specs.Bits.{has_bit}
 use Rattle.words.specs.Iter.{iter, counted}
 use Rattle.words.specs.Rows.{or_at}

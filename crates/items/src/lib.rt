@@ -1,4 +1,5 @@
 // LR(1) items: which are valid behind a stack, as forms and texts have it, and the sets of them.
+#![tactic(auto)]
 
 ghost use Rattle.items.specs.Statements.{ClosureByFirst, ItemsComplete, ItemsGoOn, ItemsSound, SetsExact};
 

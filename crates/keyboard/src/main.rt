@@ -1,4 +1,6 @@
 // A reader at a keyboard: each line is a rule, a text or a command, and is answered in words.
+#![tactic(auto)]
+
 use anyhow::anyhow;
 use session::Session;
 use std::io::{BufRead, BufReader};

@@ -1,5 +1,5 @@
 -- The command that loads a grammar spells the grammar that is meant.
-use Rattle.std.proofs.Common.{◌≡◌, ℕ, suc, ◌+◌, ◌-◌, Bool, true, false, ltb, List, [], ◌∷◌, ◌++◌, map, length, vec_items, sym, refl, ap, ◌∙◌, arith}
+use Rattle.std.proofs.Common.{◌≡◌, ℕ, suc, ◌+◌, ◌-◌, Bool, true, false, ltb, List, [], ◌∷◌, map, length, vec_items, refl, ◌∙◌, arith}
 use Rattle.grammar.specs.Grammar as theory
 use Rattle.grammar.specs.Grammar.{each, pick}
 use Rattle.grammar.specs.Spelling.{flat, grammar_spelled, rule_spelled, sym_of, sym_spelled}

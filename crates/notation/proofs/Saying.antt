@@ -3,7 +3,7 @@ use Rattle.std.proofs.Common.{◌≡◌, ℕ, ◌+◌, ◌<◌, ◌≤◌, Bool,
 use Rattle.grammar.specs.Grammar.{every}
 use Rattle.grammar.specs.Spelling.{byte_ok}
 use Rattle.std.specs.List.{flat_map}
-use Rattle.std.proofs.lemmas.List.{append_assoc, get_or_default, flat_map_more, length-append, map_more, take_all, take_more}
+use Rattle.std.proofs.lemmas.List.{append_assoc, flat_map_more, length-append, map_more, take_more}
 use Rattle.std.proofs.lemmas.Bool.{and_from, and_parts, lt-ltb}
 use Rattle.notation.specs.declared.rules.Rule.{Rule}
 use Rattle.notation.specs.Said.{TextSaid, load_said, rule_said}

@@ -1,8 +1,10 @@
 // Grammars and texts in words: rules as lines, the commands that spell them, and answers in words again.
+#![tactic(auto)]
+
 pub mod fault;
+pub mod lexicon;
 pub mod rules;
 pub mod said;
 pub mod shown;
 #[cfg(test)]
 mod tests;
-pub mod lexicon;

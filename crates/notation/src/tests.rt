@@ -21,12 +21,13 @@ fn sums_are_spelled(rt: HostRuntime) -> Result<(), Fail> {
     let bytes = said::load(heap, &notation, codes.as_slice())?;
     assert_eq!(rt;
         bytes.as_slice(),
-        &[
+        [
             1, 5, 0, 1, 33, 1, 3, 33, 0, 34, 1, 1, 34, 2, 1, 1, 2, 3, 2, 33, 3,
         ]
+        .as_slice()
     );
     let bytes = said::text(heap, 2, &notation, codes.as_slice(), "x + ( x )")?;
-    assert_eq!(rt; bytes.as_slice(), &[2, 1, 0, 2, 1, 3]);
+    assert_eq!(rt; bytes.as_slice(), [2, 1, 0, 2, 1, 3].as_slice());
     Ok(())
 }
 

@@ -1,5 +1,5 @@
 -- The parser that is driven by item sets: one move, a silent run to its end, and the run on to the next rule. Assumes nothing: these are definitions.
-use Rattle.std.specs.Prelude.{ℕ, zero, suc, ◌+◌, ◌-◌, ◌&&◌, List, [], ◌∷◌, length, set, replicate, ◌==◌, nat_lt, slice_index, slice_index_or, slice_set}
+use Rattle.std.specs.Prelude.{ℕ, zero, suc, ◌+◌, ◌-◌, ◌&&◌, List, [], ◌∷◌, length, replicate, ◌==◌, nat_lt, slice_index, slice_index_or, slice_set}
 use Rattle.words.specs.Packed.{stacked}
 use Rattle.grammar.specs.Grammar.{pick, Grammar, rule}
 use Rattle.items.specs.Sets.{start_set, goto, reduce_at, shift_at}

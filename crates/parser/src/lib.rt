@@ -1,4 +1,5 @@
 // Runs of an LR(1) parser: what is so of them whatever finds their moves, and of the parser that finds its moves by item sets.
+#![tactic(auto)]
 
 pub mod advance;
 pub mod check;

@@ -1,5 +1,5 @@
 -- What one step keeps of the memory: its length, and that its numbers are small.
-use Rattle.std.proofs.Common.{◌≡◌, ℕ, ◌+◌, ◌<◌, ◌≤◌, Bool, true, ltb, List, length, replicate, refl, ◌∙◌, arith, length-set}
+use Rattle.std.proofs.Common.{◌≡◌, ℕ, ◌+◌, ◌<◌, ◌≤◌, true, ltb, List, length, replicate, ◌∙◌, arith, length-set}
 use Rattle.grammar.specs.Grammar.{every}
 use Rattle.reader.specs.Memory.{with_phase, cleared, with_spelling}
 use Rattle.reader.proofs.MemoryLaws.{small, small_set, small_region, small_replaced, small_zeros, small_over, small_bytes, length_cleared, length_spelled}

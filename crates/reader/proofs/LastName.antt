@@ -1,9 +1,9 @@
 -- The last name from behind: nothing found from an index on, then one more.
-use Rattle.std.proofs.Common.{◌≡◌, ℕ, zero, suc, ◌+◌, ◌<◌, ◌≤◌, Bool, true, false, leb, List, [], ◌∷◌, length, get_or, drop, sym, refl, ap, ◌∙◌, subst, add-one, arith}
+use Rattle.std.proofs.Common.{◌≡◌, ℕ, zero, suc, ◌+◌, ◌<◌, ◌≤◌, Bool, true, false, leb, List, [], ◌∷◌, length, get_or, drop, sym, refl, ap, ◌∙◌, add-one, arith}
 use Rattle.std.proofs.lemmas.List.{drop_more, drop_all}
 use Rattle.grammar.specs.Grammar.{pick, none_of}
 use Rattle.reader.specs.declared.Reply.{Reply}
-use Rattle.reader.specs.declared.Reply.TheVariants.{At, None, Refused}
+use Rattle.reader.specs.declared.Reply.TheVariants.{Refused}
 use Rattle.reader.specs.Entry.{last_place, place_told, PlaceSays}
 
 abbrev pub NothingFrom : List ℕ → ℕ → Type 0

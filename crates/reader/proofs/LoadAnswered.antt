@@ -1,5 +1,5 @@
 -- A grammar that is said is answered as it may be, and what is loaded then is held.
-use Rattle.std.proofs.Common.{◌≡◌, ℕ, ◌+◌, ◌<◌, ◌≤◌, true, List, [], ◌∷◌, length, replicate, sym, refl, ap, ◌∙◌, inl, inr, arith, length-set}
+use Rattle.std.proofs.Common.{◌≡◌, ℕ, ◌+◌, ◌<◌, ◌≤◌, true, List, [], ◌∷◌, length, replicate, refl, ◌∙◌, inl, inr, arith, length-set}
 use lib.ListN.{length-replicate}
 use Rattle.grammar.specs.Grammar.{Grammar, Clash}
 use Rattle.grammar.specs.Spelling.{grammar_spelled}
@@ -7,16 +7,16 @@ use Rattle.grammar.specs.Analysis.{useless}
 use Rattle.grammar.proofs.Useless.{useless_none, useless_some}
 use Rattle.conflicts.specs.Pairs.{clash_of}
 use Rattle.conflicts.proofs.Finder.{clash_none, clash_some}
-use Rattle.reader.specs.House.{Command, load, Loaded, Answer, Loading, core}
+use Rattle.reader.specs.House.{load, Loaded, Answer, Loading, core}
 use Rattle.reader.specs.Decode.{decode}
-use Rattle.reader.specs.Promise.{said, next, Said, May, runs, ran, one_act}
+use Rattle.reader.specs.Promise.{said, Said, May, runs, ran, one_act}
 use Rattle.reader.specs.Memory.{Layout, Apart, with_phase, cleared, with_spelling, loaded}
-use Rattle.reader.specs.Machine.{machine, answered, commanded, on_useless, on_clash, refuses, kept, event_fits, row_fits}
+use Rattle.reader.specs.Machine.{machine, answered, commanded, on_useless, on_clash, refuses, event_fits, row_fits}
 use Rattle.reader.proofs.Decoding.{said_of}
 use Rattle.reader.proofs.Said.{Spelling, spelling}
 use Rattle.reader.proofs.MemoryLaws.{length_cleared, length_spelled, loaded_set, loaded_replaced, loaded_spelled}
 use Rattle.reader.proofs.Steps.{runs_step, refused_shown}
-use Rattle.reader.specs.Holds.{Holds, Taken, AllTaken, one_loaded}
+use Rattle.reader.specs.Holds.{Holds, one_loaded}
 use Rattle.reader.proofs.Invariant.{Answered, answered_by}
 
 module _ (l : Layout) (apart : Apart l) (m : List ℕ) (old : Loaded) (t : List ℕ) (g : Grammar) (h : Holds l m old) (f : row_fits t ≡ true)

@@ -1,7 +1,7 @@
 -- A grammar that is loaded, as it is told: a name of no use, a clash, or done.
-use Rattle.std.proofs.Common.{◌≡◌, ℕ, ◌+◌, ◌-◌, ◌*◌, ◌<◌, ◌≤◌, true, false, List, [], ◌∷◌, ◌++◌, length, take, drop, set, sym, refl, ap, ◌∙◌, subst, arith, length-append}
+use Rattle.std.proofs.Common.{◌≡◌, ℕ, ◌+◌, ◌-◌, ◌*◌, ◌≤◌, true, false, List, [], ◌∷◌, ◌++◌, length, take, drop, set, sym, refl, ap, ◌∙◌, arith, length-append}
 use Rattle.words.proofs.Regions.{length_region}
-use Rattle.grammar.specs.Grammar.{Rule, Grammar, Clash, added_up}
+use Rattle.grammar.specs.Grammar.{Grammar, Clash, added_up}
 use Rattle.grammar.specs.Spelling.{sym_spelled, flat, rule_spelled, grammar_spelled, grammar_ok, grammar_of, Spells}
 use Rattle.grammar.proofs.Spelled.{grammar_said, length_each}
 use Rattle.grammar.proofs.Sizes.{sizes}

@@ -1,19 +1,18 @@
 -- THE MAIN PROMISE: for whatever rows of bytes come, each is answered as it may be.
-use Rattle.std.proofs.Common.{◌≡◌, ℕ, suc, ◌+◌, ◌*◌, ◌<◌, ◌≤◌, true, ◌&&◌, ltb, leb, List, [], ◌∷◌, length, replicate, sym, refl, ap, ◌∙◌, subst, inl, inr, arith, lit<, lit≤}
+use Rattle.std.proofs.Common.{◌≡◌, ℕ, ◌*◌, ◌<◌, ◌≤◌, true, ◌&&◌, ltb, leb, List, [], ◌∷◌, length, refl, ap, ◌∙◌, inl, inr, arith, lit<, lit≤}
 use lib.ListN.{length-replicate}
 use Rattle.std.proofs.lemmas.Bool.{and_from, le-leb, lt-ltb}
-use Rattle.grammar.specs.Grammar.{pick, Grammar}
-use Rattle.parser.specs.DriveStatements.{most_symbols, most_moves}
+use Rattle.parser.specs.DriveStatements.{most_moves}
 use Rattle.parser.proofs.MostMoves.{most_moves_below}
 use Rattle.reader.specs.House.{Command, load, read_text, what_next, Loaded, core}
 use Rattle.reader.specs.Decode.{decode}
-use Rattle.reader.specs.Promise.{said, next, refused, Whole, May, runs, ran, one_act}
-use Rattle.reader.specs.Memory.{Layout, Apart, moves_of, loaded}
+use Rattle.reader.specs.Promise.{said, refused, Whole, May, runs, ran, one_act}
+use Rattle.reader.specs.Memory.{Layout, Apart, moves_of}
 use Rattle.reader.specs.Machine.{machine, answered, commanded, event_fits, row_fits, kept}
 use Rattle.reader.specs.Entry.{own, own_layout}
 use Rattle.reader.proofs.Decoding.{said_of, none_said}
 use Rattle.reader.proofs.MemoryLaws.{loaded_zeros}
-use Rattle.reader.proofs.Steps.{machine_length, runs_step}
+use Rattle.reader.proofs.Steps.{runs_step}
 use Rattle.reader.specs.Holds.{Holds, nothing_loaded}
 use Rattle.reader.proofs.LoadAnswered.{load_answered}
 use Rattle.reader.proofs.ReadAnswered.{read_answered}

@@ -1,5 +1,5 @@
 -- What is kept of the memory where something is written: its length, the size of its numbers, and the grammar that is loaded.
-use Rattle.std.proofs.Common.{◌≡◌, ℕ, zero, suc, ◌+◌, ◌-◌, ◌%◌, ◌<◌, ◌≤◌, Bool, true, false, ◌&&◌, eqb, ltb, ◌≢◌, List, [], ◌∷◌, ◌++◌, length, get_or, take, drop, set, replicate, sym, refl, ap, ◌∙◌, ap₂, mod-eq_of_lt, arith, length-append, length-drop, length-set, get_or-set_other, get_or-set_same, take_at}
+use Rattle.std.proofs.Common.{◌≡◌, ℕ, zero, suc, ◌+◌, ◌%◌, ◌<◌, ◌≤◌, Bool, true, ltb, ◌≢◌, List, [], ◌∷◌, ◌++◌, length, get_or, take, drop, set, replicate, refl, ap, ◌∙◌, ap₂, mod-eq_of_lt, arith, length-append, length-drop, length-set, get_or-set_other, get_or-set_same, take_at}
 use lib.ListN.{length-replicate}
 use Rattle.std.proofs.lemmas.Bool.{and_parts, and_from, ltb-true, lt-ltb}
 use Rattle.words.specs.Regions.{region, replaced}
@@ -8,9 +8,7 @@ use Rattle.grammar.specs.Grammar.{pick, every, each, Grammar, a_grammar}
 use Rattle.grammar.specs.Spelling.{grammar_ok, grammar_of, grammar_spelled}
 use Rattle.grammar.proofs.Lists.{every_append}
 use Rattle.grammar.proofs.Spelled.{grammar_back}
-use Rattle.reader.specs.House.{Loaded}
-use Rattle.reader.specs.Promise.{all_small}
-use Rattle.reader.specs.Memory.{with_phase, cleared, over, low_byte, spelling_in, with_spelling, loaded}
+use Rattle.reader.specs.Memory.{cleared, over, low_byte, spelling_in, with_spelling, loaded}
 
 -- SIZES
 abbrev pub small : ℕ → Bool

@@ -1,5 +1,5 @@
 -- A row written over the beginning of another, one number after the other.
-use Rattle.std.proofs.Common.{◌≡◌, ℕ, zero, suc, ◌+◌, ◌<◌, ◌≤◌, List, [], ◌∷◌, ◌++◌, length, get_or, take, drop, set, sym, refl, ap, ◌∙◌, add-one, arith}
+use Rattle.std.proofs.Common.{◌≡◌, ℕ, zero, suc, ◌+◌, ◌<◌, ◌≤◌, List, [], ◌∷◌, ◌++◌, length, get_or, take, drop, set, refl, ap, add-one, arith}
 use Rattle.reader.specs.Memory.{over}
 
 pub over_more : (xs ys : List ℕ) (i : ℕ) → i < length xs → length xs ≤ length ys →

@@ -3,12 +3,12 @@ use Rattle.std.proofs.Common.{◌≡◌, ℕ, List, [], ◌∷◌, refl}
 use Rattle.grammar.specs.Grammar.{Grammar}
 use Rattle.reader.specs.declared.Told.{Told}
 use Rattle.reader.specs.declared.Told.TheVariants.{No}
-use Rattle.reader.specs.House.{Command, load, read_text, what_next}
+use Rattle.reader.specs.House.{load, read_text, what_next}
 use Rattle.reader.specs.Decode.{decode}
-use Rattle.reader.specs.Promise.{Event, said, next}
+use Rattle.reader.specs.Promise.{said, next}
 use Rattle.reader.specs.Memory.{Layout}
 use Rattle.reader.specs.Machine.{answered, commanded, goes_on, loads, reads}
-use Rattle.reader.specs.Entry.{StepTold, ActTold, own_layout}
+use Rattle.reader.specs.Entry.{StepTold, ActTold}
 
 module _ (l : Layout) (m t out : List ℕ) where
   pub none_refused : decode t ≡ [] → StepTold (answered l m (said t)) (No 1) out m out

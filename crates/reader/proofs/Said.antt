@@ -1,5 +1,5 @@
 -- What is known of a grammar that is said: it fits, and its spelling is short and of bytes.
-use Rattle.std.proofs.Common.{◌≡◌, ℕ, ◌≤◌, true, ◌&&◌, ltb, leb, List, ◌∷◌, length, drop, sym, ap, subst}
+use Rattle.std.proofs.Common.{◌≡◌, ℕ, ◌≤◌, true, ltb, leb, List, ◌∷◌, length, drop, sym, ap, subst}
 use Rattle.std.proofs.lemmas.Bool.{and_parts}
 use Rattle.grammar.specs.Grammar.{every, Grammar, a_grammar}
 use Rattle.grammar.specs.Spelling.{grammar_spelled}

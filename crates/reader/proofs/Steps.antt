@@ -1,9 +1,8 @@
 -- The machine's steps: the guard, and the lengths of its memory.
-use Rattle.std.proofs.Common.{◌≡◌, ℕ, suc, ◌<◌, ◌≤◌, Bool, true, false, ◌&&◌, eqb, ltb, leb, List, [], ◌∷◌, length, replicate, refl, ◌∙◌, arith, length-set, get_or-set_same}
+use Rattle.std.proofs.Common.{◌≡◌, ℕ, suc, ◌<◌, ◌≤◌, true, false, ◌&&◌, eqb, ltb, leb, List, [], ◌∷◌, length, refl, ◌∙◌, arith, length-set, get_or-set_same}
 use lib.ListN.{length-replicate}
 use Rattle.std.proofs.lemmas.Bool.{and_from, eq-eqb, ne_eqb, le-leb, lt-ltb}
-use Rattle.grammar.specs.Grammar.{pick}
-use Rattle.reader.specs.Promise.{Engine, Event, said, next, runs, ran, one_act}
+use Rattle.reader.specs.Promise.{Event, said, next, runs, ran, one_act}
 use Rattle.reader.specs.Memory.{Layout, phase_in, with_phase}
 use Rattle.reader.specs.Machine.{machine, stepped, answered, goes_on, a_refusal, refuses, event_fits, row_fits}
 use Rattle.reader.specs.Entry.{own, own_layout}

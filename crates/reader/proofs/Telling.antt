@@ -1,10 +1,9 @@
 -- One step of the machine, as it is told: what the code tests is what the contract asks.
-use Rattle.std.proofs.Common.{◌≡◌, ℕ, suc, ◌<◌, ◌≤◌, Bool, true, false, ◌&&◌, eqb, ltb, leb, List, [], ◌∷◌, length, get_or, sym, refl, ap, subst, arith}
+use Rattle.std.proofs.Common.{◌≡◌, ℕ, suc, ◌<◌, ◌≤◌, true, false, ◌&&◌, eqb, ltb, leb, List, [], ◌∷◌, length, get_or, sym, refl, arith}
 use Rattle.std.proofs.lemmas.Bool.{eq-eqb, ne_eqb, and_parts, and_from, leb-true, eqb-true, lt-ltb}
-use Rattle.grammar.specs.Grammar.{pick, every}
-use Rattle.reader.specs.Promise.{Event, said, next, Step}
-use Rattle.reader.specs.Memory.{Layout}
-use Rattle.reader.specs.Machine.{machine, stepped, answered, event_fits, row_fits, sizes_fit}
+use Rattle.grammar.specs.Grammar.{every}
+use Rattle.reader.specs.Promise.{Event, said, next}
+use Rattle.reader.specs.Machine.{machine, answered, event_fits, sizes_fit}
 use Rattle.reader.specs.Entry.{own, own_layout, event_of, StepSays, StepTold, step_fits}
 use Rattle.reader.specs.declared.Told.{Told}
 use Rattle.reader.specs.declared.Told.TheVariants.{No}

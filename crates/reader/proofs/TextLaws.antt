@@ -1,5 +1,5 @@
 -- What is read of the memory where a text, or a configuration, was written.
-use Rattle.std.proofs.Common.{◌≡◌, ℕ, ◌+◌, ◌*◌, ◌<◌, ◌≤◌, true, ◌≢◌, List, [], ◌∷◌, length, get_or, take, drop, set, replicate, sym, refl, ap, ◌∙◌, ap₂, arith, length-set, get_or-set_other, get_or-set_same, take_at, drop-set-lt, ext_get_or}
+use Rattle.std.proofs.Common.{◌≡◌, ℕ, ◌+◌, ◌*◌, ◌<◌, ◌≤◌, true, ◌≢◌, List, length, get_or, take, drop, set, replicate, sym, refl, ap, ◌∙◌, ap₂, arith, length-set, get_or-set_other, get_or-set_same, take_at, drop-set-lt, ext_get_or}
 use lib.ListN.{length-replicate, get_or-replicate}
 use Rattle.words.specs.Packed.{packed, unpacked}
 use Rattle.words.specs.Regions.{region, replaced}

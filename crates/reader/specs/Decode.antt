@@ -1,5 +1,5 @@
 -- Which command a row of bytes spells: the one that it could be, and whether it is that one. Assumes nothing: these are definitions.
-use Rattle.std.specs.Prelude.{◌≡◌, ℕ, Bool, false, List, [], ◌∷◌, ◌==◌}
+use Rattle.std.specs.Prelude.{ℕ, Bool, false, List, [], ◌∷◌, ◌==◌}
 use Rattle.grammar.specs.Grammar.{pick}
 use Rattle.grammar.specs.Spelling.{grammar_ok, grammar_of}
 use Rattle.reader.specs.House.{Command, load, read_text, what_next, a_text}

@@ -1,6 +1,6 @@
 -- What can be said to the reader, and what it is to answer. Assumes nothing: these are definitions.
 use Rattle.std.specs.Prelude.{◌≡◌, ℕ, zero, suc, Bool, true, false, ◌&&◌, ◌⊎◌, List, [], ◌∷◌, length, nat_le, nat_lt}
-use Rattle.grammar.specs.Grammar.{every, each, backwards, Rule, Grammar, a_grammar, Makes, Clash, Clashes, Enough, Useful, AllUseful, in_grammar}
+use Rattle.grammar.specs.Grammar.{every, each, backwards, Grammar, a_grammar, Makes, Clash, Clashes, Enough, Useful, AllUseful, in_grammar}
 use Rattle.grammar.specs.Texts.{Begins, NotBegins, NotMade, FirstWrong, Follows}
 use Rattle.grammar.specs.Spelling.{sym_spelled, flat}
 

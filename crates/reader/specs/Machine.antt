@@ -1,5 +1,5 @@
 -- The machine: its answer to each event, and what its memory holds then. Assumes nothing: these are definitions.
-use Rattle.std.specs.Prelude.{ℕ, ◌+◌, ◌*◌, Bool, true, false, ◌&&◌, List, [], ◌∷◌, length, replicate, ◌==◌, nat_le, nat_lt}
+use Rattle.std.specs.Prelude.{ℕ, ◌+◌, ◌*◌, Bool, true, ◌&&◌, List, [], ◌∷◌, length, replicate, ◌==◌, nat_le, nat_lt}
 use Rattle.grammar.specs.Grammar.{pick, every, Grammar, Clash}
 use Rattle.grammar.specs.Spelling.{grammar_spelled}
 use Rattle.grammar.specs.Analysis.{useless}

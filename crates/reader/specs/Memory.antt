@@ -1,5 +1,5 @@
 -- The machine's memory: where it keeps the grammar, what it is doing, the text, the stack, and room to work in. Assumes nothing: these are definitions.
-use Rattle.std.specs.Prelude.{◌≡◌, ℕ, ◌+◌, ◌-◌, ◌*◌, ◌%◌, ◌^◌, ◌≤◌, List, [], ◌∷◌, ◌++◌, length, take, drop, set, replicate, slice_index, slice_set}
+use Rattle.std.specs.Prelude.{◌≡◌, ℕ, ◌+◌, ◌-◌, ◌*◌, ◌%◌, ◌^◌, ◌≤◌, List, [], ◌∷◌, ◌++◌, length, take, drop, replicate, slice_index, slice_set}
 use Rattle.words.specs.Packed.{packed, unpacked, stacked}
 use Rattle.words.specs.Regions.{region, replaced}
 use Rattle.grammar.specs.Grammar.{pick, each, Grammar}

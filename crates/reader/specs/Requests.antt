@@ -3,7 +3,7 @@ use Rattle.std.specs.Prelude.{◌≡◌, ℕ, true, List, [], ◌∷◌, Some, N
 use Rattle.grammar.specs.Spelling.{grammar_ok, grammar_of}
 use Rattle.reader.specs.declared.commands.Request.{Request}
 use Rattle.reader.specs.declared.commands.Request.TheVariants.{Load, Read, Next}
-use Rattle.reader.specs.House.{Command, load, read_text, what_next, a_text}
+use Rattle.reader.specs.House.{load, read_text, what_next, a_text}
 use Rattle.reader.specs.Decode.{decode}
 
 abbrev pub Decodes : List ℕ → Option Request → Type 0

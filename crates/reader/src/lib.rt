@@ -1,4 +1,6 @@
 // The reader: the entry that finds the last name, and one step of the whole machine.
+#![tactic(auto)]
+
 ghost use Rattle.std.specs.Prelude.{◌≡◌, ◌+◌, ◌<◌, ◌≤◌, true, length};
 ghost use Rattle.grammar.specs.Spelling.{grammar_of, grammar_ok};
 ghost use Rattle.reader.specs.Entry.{PlaceSays, StepSays, StepTold, are_symbols, own, smaller, step_fits, symbol_ok};

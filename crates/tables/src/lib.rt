@@ -1,4 +1,5 @@
 // Item sets as a matter of forms, and reading by a table of them: what is so, whatever makes the table.
+#![tactic(auto)]
 
 ghost use Rattle.tables.specs.Statements.{StandsIsValid, SetsOnce, AtLeastSo, AlikeGoesOn, FirstIsAlone};
 ghost use Rattle.tables.specs.Statements.{TableReads, TableRefuses, GoesOnce, TableIsMade};

@@ -1,5 +1,5 @@
 -- Rows of words: a mask put into one place, and how many bits are set. Assumes nothing: these are definitions.
-use Rattle.std.specs.Prelude.{◌≡◌, ℕ, ◌^◌, ◌<◌, List, length, set, sum_by, bit_or, count_ones, slice_index, slice_set}
+use Rattle.std.specs.Prelude.{◌≡◌, ℕ, ◌^◌, ◌<◌, List, length, sum_by, bit_or, count_ones, slice_index, slice_set}
 
 -- the row s with the mask m put into its place q; past the end nothing happens
 abbrev pub or_at : List ℕ → ℕ → ℕ → List ℕ

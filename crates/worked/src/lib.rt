@@ -1,4 +1,6 @@
 // The worked examples, a function for each row: its contract is a theorem about what comes of a grammar, in which no parser occurs.
+#![tactic(auto)]
+
 ghost use Rattle.worked.specs.Table.{BracketWrong, IfsClash, NextBehindX, OtherUseless, SumRead, SumsClash, SumsReduced};
 
 /// The grammar of sums fits, and every name is of use.

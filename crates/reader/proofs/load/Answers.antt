@@ -1,4 +1,4 @@
-use Rattle.std.proofs.Common.{◌≡◌, ℕ, ◌+◌, ◌<◌, ◌≤◌, [], ◌∷◌, length, replicate, sym, refl, ap, ◌∙◌, arith, rules}
+use Rattle.std.proofs.Common.{ℕ, replicate, sym, refl, ap, ◌∙◌, arith, rules}
 use Rattle.words.proofs.Regions.{put_replaced}
 use Rattle.grammar.specs.Spelling.{grammar_of}
 use Rattle.grammar.proofs.Spelled.{grammar_said}

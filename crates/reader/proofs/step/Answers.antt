@@ -1,4 +1,4 @@
-use Rattle.std.proofs.Common.{◌≡◌, ℕ, ◌≤◌, List, length, Some, refl, subst, arith}
+use Rattle.std.proofs.Common.{Some, refl, subst, arith}
 use Rattle.reader.specs.declared.commands.Request.{Request}
 use Rattle.reader.specs.Requests.{Decodes}
 use Rattle.reader.specs.Entry.{own_layout}

@@ -1,4 +1,4 @@
-use Rattle.std.proofs.Common.{◌≡◌, true, is_ok, ap, arith, rules}
+use Rattle.std.proofs.Common.{◌≡◌, true, is_ok, ap, rules}
 use Rattle.std.proofs.lemmas.List.{take_all}
 use Rattle.notation.proofs.Saying.{map_said_more}
 use Rattle.notation.proofs.said.say_symbols.Goals as goal

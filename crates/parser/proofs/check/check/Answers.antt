@@ -1,4 +1,4 @@
-use Rattle.std.proofs.Common.{◌≡◌, ◌-◌, ◌*◌, ◌^◌, length, replicate, sym, refl, ap, ◌∙◌, subst, ap₂, arith, rules}
+use Rattle.std.proofs.Common.{◌≡◌, ◌-◌, ◌*◌, ◌^◌, length, replicate, refl, ap, ◌∙◌, ap₂, arith, rules}
 use Rattle.words.specs.Packed.{unpacked}
 use Rattle.words.proofs.Packing.{unpacked_zeroes}
 use Rattle.grammar.specs.Grammar.{Grammar}

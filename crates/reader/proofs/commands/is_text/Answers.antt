@@ -1,4 +1,4 @@
-use Rattle.std.proofs.Common.{ltb, sym, refl, ◌∙◌, arith}
+use Rattle.std.proofs.Common.{ltb, sym, arith}
 use Rattle.std.proofs.lemmas.Bool.{lt-ltb, le-ltb, le-leb, lt-leb, and_from, and_right, and_left}
 use Rattle.grammar.proofs.Every.{upto_more, upto_stop, upto_all}
 use Rattle.reader.proofs.commands.is_text.Goals as goal

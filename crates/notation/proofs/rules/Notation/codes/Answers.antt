@@ -1,4 +1,4 @@
-use Rattle.std.proofs.Common.{arith, rules}
+use Rattle.std.proofs.Common.{rules}
 use Rattle.notation.proofs.Saying.{every_more, every_none}
 use Rattle.notation.proofs.rules.Notation.codes.Goals as goal
 
