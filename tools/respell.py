@@ -14,6 +14,8 @@ WORD = re.compile(r"[^\s(){}\[\];,.\"`|]+")
 OTHER = {"Clash-found": "ClashIsFound", "Gave-out": "GaveOutThere", "First-known": "FirstKnown", "Item-set": "IsItemSet"}
 # names that are tactics now
 TACTICS = {"first_of": "first_split", "ground": "foot"}
+# a statement that the toolchain's script turned by half
+HALVES = {"Goes_on": "GoesOn"}
 LEAD = r"^(\s*)((?:unfoldable |abbrev |pub |data |record )*)"
 
 
@@ -65,6 +67,8 @@ def turn(text, table, fields, guarded):
     def one(m):
         word = m.group(0)
         before = text[m.start() - 1] if m.start() else " "
+        if word in HALVES:
+            return HALVES[word]
         if word in TACTICS and before != "." and text[m.end(): m.end() + 1] != ".":
             return TACTICS[word]
         if word not in table:

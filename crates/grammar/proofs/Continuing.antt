@@ -3,7 +3,7 @@ use Rattle.std.proofs.Common.{◌≡◌, ℕ, List, [], ◌∷◌, ◌++◌, len
 use Rattle.std.proofs.lemmas.Bool.{ne_eqb, eqb-false}
 use Rattle.grammar.specs.Grammar.{backwards, Sym, name, Rule, Grammar, rule, signs, form, Makes, Useful, AllUseful}
 use Rattle.grammar.specs.Texts.{Begins}
-use Rattle.grammar.specs.Statements.{Goes_on, TwinsClash}
+use Rattle.grammar.specs.Statements.{GoesOn, TwinsClash}
 use Rattle.grammar.proofs.Lists.{every_parts}
 use Rattle.grammar.proofs.Signs.{signs_append}
 use Rattle.grammar.proofs.Derivations.{comes_by_then, Step}
@@ -21,8 +21,8 @@ end_comes g s useful ds a b e =
     let p = known_comes g useful b k in
     (ds ++ backwards p.1, p.0, comes_by_then g ds (backwards p.1) (name 0 ∷ []) (a ++ b) ((a ++ signs p.0) ∷ []) e (comes_at_end p.2 a))
 
-pub goes_on : Goes_on
-unfolding Goes_on Begins Makes
+pub goes_on : GoesOn
+unfolding GoesOn Begins Makes
 goes_on g ds ts ss a useful e =
     let p = end_comes g (sizes g a) useful ds (signs ts) ss e in
     (p.0, p.1, p.2 ∙ ap (λ x. x ∷ []) (sym (signs_append ts p.1)))

@@ -9,8 +9,8 @@ OneReading =
     (g : Grammar) (ds es ts : List ℕ) → a_grammar g ≡ true → Enough g → Makes g ds ts → Makes g es ts → ds ≡ es
 
 -- If every name is of use, whatever comes on the way to a text can be gone on from: the beginning of a form's signs is some text's beginning.
-unfoldable pub Goes_on : Type 0
-Goes_on =
+unfoldable pub GoesOn : Type 0
+GoesOn =
     (g : Grammar) (ds ts : List ℕ) (ss : List Sym) → a_grammar g ≡ true → AllUseful g → form g ds ≡ (signs ts ++ ss) ∷ [] → Begins g ts
 
 -- What begins no text, begins none with more behind it; and there's one first wrong place.

@@ -1,7 +1,7 @@
 // What is so of every grammar, whatever reads its texts: each function's contract is a theorem.
 ghost use Rattle.grammar.specs.Computed.{FirstComputed, NullableComputed, UselessFound};
 ghost use Rattle.grammar.specs.First.{FirstExact, NullableExact};
-ghost use Rattle.grammar.specs.Statements.{Goes_on, LastRight, OneReading, SomethingComes, TwinsClash, WrongOnce};
+ghost use Rattle.grammar.specs.Statements.{GoesOn, LastRight, OneReading, SomethingComes, TwinsClash, WrongOnce};
 ghost use Rattle.grammar.specs.Trees.{TreesExact};
 
 // If one sign of lookahead is enough for a grammar, every text has one reading at most: no two derivations from the right make it.
@@ -13,7 +13,7 @@ pub fn one_reading() -> u8
 
 // If every name is of use, the signs that a form begins with begin some text: what comes on the way to a text can be gone on from.
 pub fn goes_on() -> u8
-    ensures { Goes_on }
+    ensures { GoesOn }
 {
     0
 }

@@ -17,15 +17,15 @@ pub no_move_stuck : {g : Grammar} {γ : List Sym} (ρ : List ℕ) → (CanMove g
 no_move_stuck {g} {γ} ρ n =
     record { no_reduce = λ r v. n (inl (r, v)); no_shift = λ t σ e c. n (inr (subst (λ k. CanShift g γ k) (ap lookahead (sym e)) c)) }
 
-abbrev pub Goes_on : Grammar → List Sym → ℕ → Type 0
-Goes_on g γ t = ShiftsNext g γ t ⊎ ((t ≡ 24) × (rs : List ℕ) × Run g γ [] (name (rule g 0).left ∷ []) [] rs)
+abbrev pub GoesOn : Grammar → List Sym → ℕ → Type 0
+GoesOn g γ t = ShiftsNext g γ t ⊎ ((t ≡ 24) × (rs : List ℕ) × Run g γ [] (name (rule g 0).left ∷ []) [] rs)
 
 -- a rule that can be reduced is live: reductions go on until the sign ahead is shifted, or all is accepted
-pub goes_on : (g : Grammar) → Sizes g → {γ : List Sym} (t : ℕ) → CanMove g γ t → Goes_on g γ t
+pub goes_on : (g : Grammar) → Sizes g → {γ : List Sym} (t : ℕ) → CanMove g γ t → GoesOn g γ t
 goes_on g s {γ} t (inr c) = inl (record { top = γ; can = c; rules = []; run = λ σ. shift c.3 stay })
 goes_on g s {γ} t (inl (r, v)) = go (live v) _ refl
   where
-    go : (l : Live g γ r [] t) (w : List ℕ) → l.more ≡ w → Goes_on g γ t
+    go : (l : Live g γ r [] t) (w : List ℕ) → l.more ≡ w → GoesOn g γ t
     go l [] e = inr (sym (ap lookahead (sym e) ∙ l.looks), r ∷ l.rules, subst (λ x. Run g γ x (name (rule g 0).left ∷ []) [] (r ∷ l.rules)) e (live_run v empty l))
     go l (x ∷ w) e = let z : x ≡ t = ap lookahead (sym e) ∙ l.looks in inl (shifts_next t w (e ∙ ap (λ k. k ∷ w) z) (live_run v empty l))
 
@@ -58,7 +58,7 @@ module _ (g : Grammar) (s : Sizes g) (can : List Sym → ℕ → Bool) (test : T
   unfolding every
   halts [] h γ = go (can γ 24) refl
     where
-      on : Goes_on g γ 24 → Halts g γ []
+      on : GoesOn g γ 24 → Halts g γ []
       on (inl n) = absurd (end_not_due g s n.top n.can)
       on (inr p) = halts_accepted [] p.1 refl p.2
 
@@ -70,7 +70,7 @@ module _ (g : Grammar) (s : Sizes g) (can : List Sym → ℕ → Bool) (test : T
       l : t ≤ 24
       l = let k = ltb-true t 24 (and_parts (ltb t 24) (every (λ t. ltb t 24) ρ) h).0 in omega arith
 
-      on : ((δ : List Sym) → Halts g δ ρ) → Goes_on g γ t → Halts g γ (t ∷ ρ)
+      on : ((δ : List Sym) → Halts g δ ρ) → GoesOn g γ t → Halts g γ (t ∷ ρ)
       on ih (inl n) =
           let h = ih (sign t ∷ n.top) in
           record {

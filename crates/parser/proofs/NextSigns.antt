@@ -17,7 +17,7 @@ use Rattle.parser.proofs.Sound.{made_accepts}
 use Rattle.parser.proofs.Deterministic.{beginning_of_stuck}
 use Rattle.parser.proofs.Reached.{SomeItem, accepted_stuck}
 use Rattle.parser.proofs.Rows.{passing, rising_passing, passing_below, has_passing}
-use Rattle.parser.proofs.Halts.{Goes_on, goes_on}
+use Rattle.parser.proofs.Halts.{GoesOn, goes_on}
 use Rattle.parser.proofs.Wrong.{ToLastShift, item_at_last_shift, shifted_begins}
 
 -- a run that shifts something begins with a move, and so does one from a stack that is not accepted
@@ -33,11 +33,11 @@ move_to_accept g s i e z (shift v R) = never (cc)
 move_to_accept g s {γ} i e z (reduce r a v d R) = inl (r, subst (λ l. Valid g γ r [] (lookahead (l ++ []))) z v)
 
 module _ (g : Grammar) (s : Sizes g) (useful : AllUseful g) {us : List ℕ} (l : ToLastShift g [] us) where
-  sign_comes : (t : ℕ) → (t ≡ 24 → ⊥) → Goes_on g l.top t → Begins g (us ++ t ∷ [])
+  sign_comes : (t : ℕ) → (t ≡ 24 → ⊥) → GoesOn g l.top t → Begins g (us ++ t ∷ [])
   sign_comes t n (inl m) = shifted_begins g s useful (run_append (t ∷ []) refl (l.run (t ∷ [])) (m.run []))
   sign_comes t n (inr p) = absurd (n p.0)
 
-  end_comes : Goes_on g l.top 24 → (ds : List ℕ) × Makes g ds us
+  end_comes : GoesOn g l.top 24 → (ds : List ℕ) × Makes g ds us
   end_comes (inl m) = absurd (end_not_due g s m.top m.can)
   end_comes (inr p) =
       let A = run_append [] refl (l.run []) p.2 in
