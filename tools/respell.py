@@ -14,8 +14,8 @@ WORD = re.compile(r"[^\s(){}\[\];,.\"`|]+")
 OTHER = {"Clash-found": "ClashIsFound", "Gave-out": "GaveOutThere", "First-known": "FirstKnown", "Item-set": "IsItemSet"}
 # names that are tactics now
 TACTICS = {"first_of": "first_split", "ground": "foot"}
-# a statement that the toolchain's script turned by half
-HALVES = {"Goes_on": "GoesOn"}
+# names that the toolchain's script turned by half
+HALVES = {"Goes_on": "GoesOn", "Ending-of": "ending_of"}
 LEAD = r"^(\s*)((?:unfoldable |abbrev |pub |data |record )*)"
 
 

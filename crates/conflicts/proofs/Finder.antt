@@ -53,9 +53,9 @@ module _ (f : ℕ → List Clash) where
 
 -- ---- what a mask that is not 0 says
 
-module _ (complete other-complete same signs : Bool) (x y : ℕ) where
+module _ (complete other_complete same signs : Bool) (x y : ℕ) where
   abbrev masked : ℕ
-  masked = pick complete (pick other-complete (pick same 0 x) (pick signs y 0)) 0
+  masked = pick complete (pick other_complete (pick same 0 x) (pick signs y 0)) 0
 
 masked_cases : (a b c d : Bool) (x y : ℕ) → (masked a b c d x y ≡ 0 → ⊥) →
     (a ≡ true) × (((b ≡ true) × (c ≡ false) × (masked a b c d x y ≡ x)) ⊎ ((b ≡ false) × (d ≡ true) × (masked a b c d x y ≡ y)))

@@ -6,7 +6,7 @@ ghost use Rattle.grammar.specs.Grammar.{Grammar};
 ghost use Rattle.grammar.specs.Table.{Shows};
 ghost use Rattle.grammar.specs.Analysed.{Analysed};
 ghost use Rattle.items.specs.Sets.{start_set};
-ghost use Rattle.parser.specs.Drive.{check_of, config, ending as EndingOf, gave_out, moved, run_for};
+ghost use Rattle.parser.specs.Drive.{check_of, config, ending as ending_of, gave_out, moved, run_for};
 ghost use Rattle.parser.specs.Checks.{Checks};
 ghost use Rattle.parser.specs.Told.{Told, config_of, ended};
 
@@ -73,7 +73,7 @@ fn is_read(stack: &[u64], state: &State, text: &[u8]) -> bool
 
 /// The ending where there is no move.
 fn end_at(stack: &[u64], state: &State, text: &[u8]) -> Ending
-    ensures { ended result ≡ EndingOf text.now (config_of stack.now state.now) }
+    ensures { ended result ≡ ending_of text.now (config_of stack.now state.now) }
 {
     if is_read(stack, state, text) {
         Ending::Accepted
