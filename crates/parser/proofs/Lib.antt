@@ -22,14 +22,12 @@ pub mod Continues
 pub mod Theorems
 pub mod Steps
 pub mod ToldMoves
-pub mod RunLoop
+pub mod CheckLoop
 pub mod AdvanceLoop
 pub mod Kept
 pub mod Stands
 pub mod DriveMoves
-pub mod Halting
 pub mod Checking
-pub mod Following
 pub mod Telling
 pub mod FirstRule
 pub mod DriveTheorems

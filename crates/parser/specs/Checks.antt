@@ -1,4 +1,4 @@
--- What runs on lent memory say of a text, for a grammar that was taken. Assumes nothing: these are definitions.
+-- What a silent run on lent memory says of a text, for a grammar that was taken. Assumes nothing: these are definitions.
 use Rattle.std.specs.Prelude.{◌≡◌, ℕ, ◌-◌, ◌*◌, ◌^◌, ◌≤◌, true, List, length, nat_lt}
 use Rattle.grammar.specs.declared.analysis.Analysis.{Analysis}
 use Rattle.grammar.specs.declared.table.Table.{Table}
@@ -6,20 +6,12 @@ use Rattle.grammar.specs.Grammar.{every, Grammar, AllUseful, Enough}
 use Rattle.grammar.specs.Table.{Shows}
 use Rattle.grammar.specs.Analysed.{Analysed}
 use Rattle.parser.specs.declared.check.Ending.{Ending as EndingTold}
-use Rattle.parser.specs.declared.next.Following.{Following as FollowingTold}
-use Rattle.parser.specs.DriveStatements.{Checked, GoesOn, most_symbols, most_moves}
-use Rattle.parser.specs.Told.{ended, followed}
+use Rattle.parser.specs.DriveStatements.{Checked, most_symbols, most_moves}
+use Rattle.parser.specs.Told.{ended}
 
--- with n words lent, of which the first hold the countdown, and room for the stack and the moves of such a text: what is said then
-abbrev pub WithRoom : Table → Analysis → (n fuel : ℕ) → List ℕ → (Grammar → Type 0) → Type 0
-WithRoom table a n fuel text P =
-    (g : Grammar) → Shows table g → Analysed g a → AllUseful g → Enough g → every (λ t. nat_lt t 24) text ≡ true → fuel ≤ n →
-    most_symbols (length text) ≤ 8 * (n - fuel) → most_moves (length text) ≤ 2 ^ (64 * fuel) - 1 → P g
-
--- it is accepted just if it is made, and else wrong at the first wrong place
+-- with n words lent, of which the first hold the countdown: if there is room for the stack and the moves of such a text, it is accepted just if it is made,
+-- and else wrong at the first wrong place
 abbrev pub Checks : Table → Analysis → (n fuel : ℕ) → List ℕ → EndingTold → Type 0
-Checks table a n fuel text r = WithRoom table a n fuel text (λ g. Checked g text (ended r))
-
--- it may go on by just these signs, or it begins no text and is wrong at the first wrong place
-abbrev pub TellsNext : Table → Analysis → (n fuel : ℕ) → List ℕ → FollowingTold → Type 0
-TellsNext table a n fuel text r = WithRoom table a n fuel text (λ g. GoesOn g text (followed r))
+Checks table a n fuel text r =
+    (g : Grammar) → Shows table g → Analysed g a → AllUseful g → Enough g → every (λ t. nat_lt t 24) text ≡ true → fuel ≤ n →
+    most_symbols (length text) ≤ 8 * (n - fuel) → most_moves (length text) ≤ 2 ^ (64 * fuel) - 1 → Checked g text (ended r)

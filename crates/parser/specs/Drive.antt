@@ -1,11 +1,8 @@
--- The parser that is driven by item sets: one move, a silent run to its end or to the end of the text, and the run on to the next rule. Assumes nothing:
--- these are definitions.
-use Rattle.std.specs.Prelude.{ℕ, zero, suc, ◌+◌, ◌-◌, ◌&&◌, List, [], ◌∷◌, length, replicate, ◌==◌, nat_le, nat_lt, slice_index, slice_index_or, slice_set}
+-- The parser that is driven by item sets: one move, a silent run to its end, and the run on to the next rule. Assumes nothing: these are definitions.
+use Rattle.std.specs.Prelude.{ℕ, zero, suc, ◌+◌, ◌-◌, ◌&&◌, List, [], ◌∷◌, length, replicate, ◌==◌, nat_lt, slice_index, slice_index_or, slice_set}
 use Rattle.words.specs.Packed.{stacked}
 use Rattle.grammar.specs.Grammar.{pick, Grammar, rule}
 use Rattle.items.specs.Sets.{start_set, goto, reduce_at, shift_at}
-use Rattle.items.specs.Actions.{acts_at}
-use Rattle.parser.specs.Rows.{passing}
 
 -- the item set behind a stack of codes, top first
 unfoldable pub items_of : Grammar → List ℕ → List ℕ
@@ -57,56 +54,32 @@ on_action g c t [] = pick (shift_at g c.items t) (shift_move g c t) stuck
 unfoldable pub moved : Grammar → List ℕ → Config → Moved
 moved g ts c = on_action g c (slice_index_or ts c.taken 24) (reduce_at g c.items (slice_index_or ts c.taken 24))
 
--- A RUN, of so many moves at most, until so many signs are taken: it comes there; or there is no move before; or the moves or the room gave out
-pub data Halt : Type 0 where
-  arrives : Config → Halt
-  sticks : Config → Halt
-  gives_out : Halt
-
-unfoldable pub on_moved : (Config → Halt) → Config → Moved → Halt
-on_moved go c (shifted d) = go d
-on_moved go c (reduced r d) = go d
-on_moved go c stuck = sticks c
-on_moved go c full = gives_out
-
-unfoldable pub run_for : ℕ → ℕ → Grammar → List ℕ → Config → Halt
-run_for zero last g ts c = gives_out
-run_for (suc n) last g ts c = pick (nat_le last c.taken) (arrives c) (on_moved (run_for n last g ts) c (moved g ts c))
-
--- the empty stack, with so much room for symbols
-unfoldable pub start_config : Grammar → ℕ → Config
-start_config g room = config (replicate room 0) 0 0 (start_set g)
-
--- A SILENT RUN to its end: the text is read, or it is wrong at a place, or the moves or the room gave out
+-- A SILENT RUN, of so many moves at most: the text is read, or it is wrong at a place, or the moves or the room gave out
 pub data Ending : Type 0 where
   accepted : Ending
   wrong : ℕ → Ending
   gave_out : Ending
 
 -- where there is no move: all is taken and the beginning's name alone stands on the stack; or not
-unfoldable pub ending : List ℕ → Halt → Ending
-ending ts (arrives c) = gave_out
-ending ts (sticks c) = pick (c.taken == length ts && (c.height == 1 && slice_index c.cells 0 == 32)) accepted (wrong c.taken)
-ending ts gives_out = gave_out
+unfoldable pub ending : List ℕ → Config → Ending
+ending ts c = pick (c.taken == length ts && (c.height == 1 && slice_index c.cells 0 == 32)) accepted (wrong c.taken)
 
--- more signs than there are are never taken, so it runs until there is no move
+unfoldable pub on_moved : (Config → Ending) → Ending → Moved → Ending
+on_moved go e (shifted d) = go d
+on_moved go e (reduced r d) = go d
+on_moved go e stuck = e
+on_moved go e full = gave_out
+
+unfoldable pub run_for : ℕ → Grammar → List ℕ → Config → Ending
+run_for zero g ts c = gave_out
+run_for (suc n) g ts c = on_moved (run_for n g ts) (ending ts c) (moved g ts c)
+
+-- from the empty stack, with so much room for symbols and so many moves
+unfoldable pub start_config : Grammar → ℕ → Config
+start_config g room = config (replicate room 0) 0 0 (start_set g)
+
 unfoldable pub check_of : Grammar → List ℕ → ℕ → ℕ → Ending
-check_of g ts room moves = ending ts (run_for moves (suc (length ts)) g ts (start_config g room))
-
--- WHAT MAY COME NEXT: right behind the last sign, before any rule is reduced there, the signs and the end before which there is an action; or the text is
--- wrong at a place before
-pub data Following : Type 0 where
-  followed_by : List ℕ → Following
-  wrong_before : ℕ → Following
-  unknown : Following
-
-unfoldable pub following : Grammar → Halt → Following
-following g (arrives c) = followed_by (passing (acts_at g c.items) 25 0)
-following g (sticks c) = wrong_before c.taken
-following g gives_out = unknown
-
-unfoldable pub next_of : Grammar → List ℕ → ℕ → ℕ → Following
-next_of g ts room moves = following g (run_for moves (length ts) g ts (start_config g room))
+check_of g ts room moves = run_for moves g ts (start_config g room)
 
 -- ON TO THE NEXT RULE that is reduced: which, and the configuration then
 pub data Advanced : Type 0 where

@@ -1,17 +1,20 @@
-// A silent run of the parser on lent memory: whether a text is read, and if not, where it is wrong.
-ghost use Rattle.std.specs.Prelude.{◌≡◌, ◌-◌, ◌*◌, ◌^◌, ◌<◌, ◌≤◌, ◌&&◌, length, replicate, ◌==◌, slice_index};
+// A silent run of the parser on lent memory: a countdown in its first words, the stack in the others.
+ghost use Rattle.std.specs.Prelude.{◌≡◌, ◌-◌, ◌*◌, ◌^◌, ◌<◌, ◌≤◌, ◌&&◌, length, take, drop, replicate, ◌==◌, slice_index};
+ghost use Rattle.words.specs.Countdown.{Ticked, value};
 ghost use Rattle.words.specs.Packed.{unpacked};
 ghost use Rattle.grammar.specs.Grammar.{Grammar};
 ghost use Rattle.grammar.specs.Table.{Shows};
 ghost use Rattle.grammar.specs.Analysed.{Analysed};
-ghost use Rattle.parser.specs.Drive.{check_of, ending as ending_of, gave_out};
+ghost use Rattle.items.specs.Sets.{start_set};
+ghost use Rattle.parser.specs.Drive.{check_of, config, ending as ending_of, gave_out, moved, run_for};
 ghost use Rattle.parser.specs.Checks.{Checks};
-ghost use Rattle.parser.specs.Told.{config_of, ended, halted};
+ghost use Rattle.parser.specs.Told.{Told, config_of, ended};
 
-use crate::config::State;
-use crate::run::{Halt, begin, run};
+use crate::config::{Move, State, move_once};
 use grammar::analysis::Analysis;
 use grammar::table::{FIRST_NAME, Table};
+use items::sets::start;
+use words::countdown::{fill, tick};
 use words::packed::read;
 use words::rows::zeroes;
 
@@ -26,6 +29,41 @@ pub enum Ending {
     GaveOut,
 }
 
+/// Sets the number of moves to the largest that the first words can hold, and clears the stack.
+fn prepare(work: &mut [u64], fuel: usize)
+    requires { fuel ≤ length work.old }
+    ensures moves { value (take fuel work.new) ≡ 2 ^ (64 * fuel) - 1 }
+    ensures stack { drop fuel work.new ≡ replicate (length work.old - fuel) 0 }
+{
+    zeroes(work);
+    fill(&mut work[0..fuel]);
+}
+
+/// Takes one from the number of moves, and says whether there was one.
+fn pay(work: &mut [u64], fuel: usize) -> bool
+    requires { fuel ≤ length work.old }
+    ensures moves { Ticked (take fuel work.old) (take fuel work.new) result }
+    ensures stack { drop fuel work.new ≡ drop fuel work.old }
+{
+    tick(&mut work[0..fuel])
+}
+
+/// One move over the stack.
+fn take_move(
+    work: &mut [u64],
+    fuel: usize,
+    state: &mut State,
+    text: &[u8],
+    table: &Table,
+    analysis: &Analysis,
+) -> Move
+    requires { fuel ≤ length work.old }
+    ensures moves { take fuel work.new ≡ take fuel work.old }
+    ensures told { (g : Grammar) → Shows table.now g → Analysed g analysis.now → Told (moved g text.now (config_of (drop fuel work.old) state.old)) (config_of (drop fuel work.old) state.old) result (config_of (drop fuel work.new) state.new) }
+{
+    move_once(&mut work[fuel..], state, text, table, analysis)
+}
+
 /// Whether all is taken, and the beginning's name alone stands on the stack.
 fn is_read(stack: &[u64], state: &State, text: &[u8]) -> bool
     ensures { result ≡ (state.now.taken == length text.now && (state.now.height == 1 && slice_index (unpacked stack.now) 0 == 32)) }
@@ -33,21 +71,36 @@ fn is_read(stack: &[u64], state: &State, text: &[u8]) -> bool
     state.taken == text.len() && (state.height == 1 && read(stack, 0) == FIRST_NAME)
 }
 
-/// The ending where a run stops.
-fn end_at(halt: Halt, stack: &[u64], state: &State, text: &[u8]) -> Ending
-    ensures { ended result ≡ ending_of text.now (halted halt (config_of stack.now state.now)) }
+/// The ending where there is no move.
+fn end_at(stack: &[u64], state: &State, text: &[u8]) -> Ending
+    ensures { ended result ≡ ending_of text.now (config_of stack.now state.now) }
 {
-    match halt {
-        Halt::Arrived => Ending::GaveOut,
-        Halt::Stuck => {
-            if is_read(stack, state, text) {
-                Ending::Accepted
-            } else {
-                Ending::Wrong(state.taken as u64)
-            }
-        }
-        Halt::GaveOut => Ending::GaveOut,
+    if is_read(stack, state, text) {
+        Ending::Accepted
+    } else {
+        Ending::Wrong(state.taken as u64)
     }
+}
+
+/// Runs from the empty stack while there are moves.
+fn run(work: &mut [u64], fuel: usize, text: &[u8], table: &Table, analysis: &Analysis) -> Ending
+    requires { fuel ≤ length work.old }
+    ensures { (g : Grammar) → Shows table.now g → Analysed g analysis.now → ended result ≡ run_for (value (take fuel work.old)) g text.now (config (unpacked (drop fuel work.old)) 0 0 (start_set g)) }
+{
+    let mut state = State {
+        height: 0,
+        taken: 0,
+        items: start(table, analysis),
+    };
+    'turn: while pay(work, fuel) {
+        match take_move(work, fuel, &mut state, text, table, analysis) {
+            Move::Shifted => {}
+            Move::Reduced(_) => {}
+            Move::Stuck => return end_at(&work[fuel..], &state, text),
+            Move::Full => return Ending::GaveOut,
+        }
+    }
+    Ending::GaveOut
 }
 
 /// Whether the text is read, or where it is wrong: `fuel` words for the number of moves, the rest for the stack. The work is cleared.
@@ -66,17 +119,8 @@ pub fn check(
     if fuel > work.len() {
         return Ending::GaveOut;
     }
-    let mut state = begin(work, fuel, table, analysis);
-    let halt = run(
-        work,
-        fuel,
-        &mut state,
-        text.len() + 1,
-        text,
-        table,
-        analysis,
-    );
-    let ending = end_at(halt, &work[fuel..], &state, text);
+    prepare(work, fuel);
+    let ending = run(work, fuel, text, table, analysis);
     zeroes(work);
     ending
 }

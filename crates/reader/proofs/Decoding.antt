@@ -66,7 +66,7 @@ unfolding decode spells
 decode_none [] h = refl
 decode_none (x ∷ xs) h = absurd (omega arith)
 
-pub cons_of : (xs body : List ℕ) (k : ℕ) → 1 ≤ length xs → body ≡ drop 1 xs → get_or xs 0 0 ≡ k → xs ≡ k ∷ body
+cons_of : (xs body : List ℕ) (k : ℕ) → 1 ≤ length xs → body ≡ drop 1 xs → get_or xs 0 0 ≡ k → xs ≡ k ∷ body
 cons_of [] body k long cut e = absurd (omega arith)
 cons_of (x ∷ xs) body k long cut e = cc
 
@@ -79,9 +79,9 @@ module _ (xs body : List ℕ) (long : 1 ≤ length xs) (cut : body ≡ drop 1 xs
   unfolding decode spells could_be
   decode_read e h = let s = cons_of xs body 2 long cut e in (rw (s, h), s, h)
 
-  pub decode_next : get_or xs 0 0 ≡ 3 → a_text body ≡ true → (decode xs ≡ what_next body ∷ []) × (xs ≡ 3 ∷ body) × (a_text body ≡ true)
+  pub decode_next : get_or xs 0 0 ≡ 3 → a_text body ≡ true → (decode xs ≡ what_next body ∷ []) × (xs ≡ 3 ∷ body)
   unfolding decode spells could_be
-  decode_next e h = let s = cons_of xs body 3 long cut e in (rw (s, h), s, h)
+  decode_next e h = let s = cons_of xs body 3 long cut e in (rw (s, h), s)
 
   pub decode_no_load : get_or xs 0 0 ≡ 1 → grammar_ok body ≡ false → decode xs ≡ []
   unfolding decode spells

@@ -14,7 +14,7 @@ use Rattle.reader.specs.Machine.{machine, stepped, answered, commanded, loads, o
 use Rattle.reader.proofs.Decoding.{said_of}
 use Rattle.reader.proofs.Said.{Spelling, spelling}
 use Rattle.reader.proofs.Keeping.{Keeps, keeps_phase, keeps_cleared, keeps_spelled}
-use Rattle.reader.proofs.ReadKeeps.{reads_keeps, expects_keeps, goes_on_keeps}
+use Rattle.reader.proofs.ReadKeeps.{reads_keeps, goes_on_keeps}
 
 every_zero : (n : ℕ) → every (λ m. eqb m 0) (replicate n 0) ≡ true
 unfolding every
@@ -45,7 +45,7 @@ module _ (l : Layout) (apart : Apart l) (few : l.words ≤ 524288) where
   commanded_keeps m t [] e r d = (refl, λ x. x)
   commanded_keeps m t (load g ∷ cs) e r d = loads_keeps m g e (spelling t g r (said_of t (load g) cs d).0)
   commanded_keeps m t (read_text ts ∷ cs) e r d = reads_keeps l apart few m ts e (said_of t (read_text ts) cs d).0.1
-  commanded_keeps m t (what_next ts ∷ cs) e r d = expects_keeps l apart few m ts e (said_of t (what_next ts) cs d).0.1
+  commanded_keeps m t (what_next ts ∷ cs) e r d = (refl, λ x. x)
 
   answered_keeps : (m : List ℕ) (ev : Event) → length m ≡ l.words → event_fits ev ≡ true → Keeps m (answered l m ev).memory
   unfolding answered event_fits

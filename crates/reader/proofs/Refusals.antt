@@ -7,13 +7,17 @@ use Rattle.reader.specs.House.{load, read_text, what_next}
 use Rattle.reader.specs.Decode.{decode}
 use Rattle.reader.specs.Promise.{said, next}
 use Rattle.reader.specs.Memory.{Layout}
-use Rattle.reader.specs.Machine.{answered, commanded, goes_on, loads, reads, expects}
+use Rattle.reader.specs.Machine.{answered, commanded, goes_on, loads, reads}
 use Rattle.reader.specs.Entry.{StepTold, ActTold}
 
 module _ (l : Layout) (m t out : List ℕ) where
   pub none_refused : decode t ≡ [] → StepTold (answered l m (said t)) (No 1) out m out
   unfolding answered ActTold commanded
   none_refused e = rw e (refl, (refl, refl))
+
+  pub what_next_refused : (ts : List ℕ) → decode t ≡ what_next ts ∷ [] → StepTold (answered l m (said t)) (No 2) out m out
+  unfolding answered ActTold commanded
+  what_next_refused ts e = rw e (refl, (refl, refl))
 
   module _ (r : Told) (m₁ out₁ : List ℕ) where
     pub next_told : StepTold (goes_on l m) r out m₁ out₁ → StepTold (answered l m next) r out m₁ out₁
@@ -28,7 +32,3 @@ module _ (l : Layout) (m t out : List ℕ) where
         StepTold (answered l m (said t)) r out m₁ out₁
     unfolding answered commanded
     load_told g e s = rw e s
-
-    pub expect_told : (ts : List ℕ) → decode t ≡ what_next ts ∷ [] → StepTold (expects l m ts) r out m₁ out₁ → StepTold (answered l m (said t)) r out m₁ out₁
-    unfolding answered commanded
-    expect_told ts e s = rw e s

@@ -4,7 +4,7 @@ use mathlib.Core.Bool.{false≢true}
 use Rattle.std.proofs.lemmas.Bool.{and_from, eq-eqb}
 use Rattle.grammar.specs.Grammar.{pick}
 use Rattle.grammar.specs.Spelling.{flat}
-use Rattle.reader.specs.House.{Command, load, read_text, what_next, Loaded, everything, Answer, Loading, With}
+use Rattle.reader.specs.House.{Command, load, read_text, what_next, Loaded, core, Answer, Loading, With}
 use Rattle.reader.specs.Promise.{Engine, Event, said, next, Act, shows, done, refused, Ran, ran, one_act, runs, May}
 use Rattle.reader.specs.Machine.{row_fits, sizes_fit}
 use Rattle.reader.specs.Entry.{own, own_layout}
@@ -88,7 +88,7 @@ answer_ends (what_next ts) k ss [] new p = omega (arith, p.0)
 answer_ends (what_next ts) k ss (g ∷ gs) new (inl p, e) = omega (arith, p.3)
 answer_ends (what_next ts) k ss (g ∷ gs) new (inr p, e) = omega (arith, p.3)
 
-may_ends : (t : List ℕ) (k : ℕ) (ss : List (List ℕ)) (old new : Loaded) → May everything t k ss old new → k ≤ 6
+may_ends : (t : List ℕ) (k : ℕ) (ss : List (List ℕ)) (old new : Loaded) → May core t k ss old new → k ≤ 6
 unfolding May
 may_ends t k ss old new (inl p) = answer_ends p.0 k ss old new p.3
 may_ends t k ss old new (inr (inl p)) = omega (arith, p.3)
@@ -98,7 +98,7 @@ pub starts_with_nothing : StartsWithNothing
 unfolding StartsWithNothing own
 starts_with_nothing = start_holds own_layout own_apart
 
-own_answers : (m : List ℕ) (old : Loaded) (t : List ℕ) → Holds own_layout m old → row_fits t ≡ true → Answered everything own (Holds own_layout) m old t
+own_answers : (m : List ℕ) (old : Loaded) (t : List ℕ) → Holds own_layout m old → row_fits t ≡ true → Answered core own (Holds own_layout) m old t
 unfolding own
 own_answers m old t h f = answers own_layout own_apart m old t h f
 
@@ -113,7 +113,7 @@ module _ (m t : List ℕ) (f : row_fits t ≡ true) (old : Loaded) (h : Holds ow
       record {
         new = a.new;
         rows = r.rows;
-        may = subst (λ (x : Ran). May everything t x.end x.showed old a.new) same a.may;
+        may = subst (λ (x : Ran). May core t x.end x.showed old a.new) same a.may;
         holds = subst (λ (x : Ran). Holds own_layout x.memory a.new) same a.holds;
         shown_so = r.shown_so;
         used_so = r.used_so;

@@ -1,5 +1,5 @@
 -- What can be said to the reader, and what it is to answer. Assumes nothing: these are definitions.
-use Rattle.std.specs.Prelude.{◌≡◌, ℕ, zero, suc, Bool, true, ◌&&◌, ◌⊎◌, List, [], ◌∷◌, length, nat_le, nat_lt}
+use Rattle.std.specs.Prelude.{◌≡◌, ℕ, zero, suc, Bool, true, false, ◌&&◌, ◌⊎◌, List, [], ◌∷◌, length, nat_le, nat_lt}
 use Rattle.grammar.specs.Grammar.{every, each, backwards, Grammar, a_grammar, Makes, Clash, Clashes, Enough, Useful, AllUseful, in_grammar}
 use Rattle.grammar.specs.Texts.{Begins, NotBegins, NotMade, FirstWrong, Follows}
 use Rattle.grammar.specs.Spelling.{sym_spelled, flat}
@@ -55,6 +55,11 @@ fits (load g) = a_grammar g
 fits (read_text ts) = a_text ts
 fits (what_next ts) = a_text ts
 
--- WHAT IS KNOWN
+-- THE SMALL CORE: grammars are loaded and texts read. What may come next makes everything known.
+unfoldable pub core : Command → Bool
+core (load g) = true
+core (read_text ts) = true
+core (what_next ts) = false
+
 abbrev pub everything : Command → Bool
 everything c = true

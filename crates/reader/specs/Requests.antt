@@ -10,4 +10,4 @@ abbrev pub Decodes : List ℕ → Option Request → Type 0
 Decodes t None = decode t ≡ []
 Decodes t (Some (Load bs)) = (decode t ≡ load (grammar_of bs.now) ∷ []) × (t ≡ 1 ∷ bs.now) × (grammar_ok bs.now ≡ true)
 Decodes t (Some (Read ts)) = (decode t ≡ read_text ts.now ∷ []) × (t ≡ 2 ∷ ts.now) × (a_text ts.now ≡ true)
-Decodes t (Some (Next ts)) = (decode t ≡ what_next ts.now ∷ []) × (t ≡ 3 ∷ ts.now) × (a_text ts.now ≡ true)
+Decodes t (Some (Next ts)) = (decode t ≡ what_next ts.now ∷ []) × (t ≡ 3 ∷ ts.now)

@@ -1,8 +1,8 @@
 -- What is promised of one command that is run to its end: how it went, and that it is answered as it may be. Assumes nothing: these are definitions.
-use Rattle.std.specs.Prelude.{◌≡◌, ℕ, zero, ◌<◌, ◌≤◌, Bool, ◌&&◌, List, [], ◌∷◌, ◌++◌, length, take, Some, None, Option, ◌≢◌, nat_le, nat_lt}
+use Rattle.std.specs.Prelude.{◌≡◌, ℕ, zero, ◌<◌, ◌≤◌, Bool, ◌&&◌, List, [], ◌∷◌, length, take, Some, None, Option, nat_le, nat_lt}
 use Rattle.grammar.specs.Spelling.{flat}
 use Rattle.reader.specs.declared.run.Ended.{Ended}
-use Rattle.reader.specs.House.{Loaded, everything}
+use Rattle.reader.specs.House.{Loaded, core}
 use Rattle.reader.specs.Promise.{said, May, runs, ran}
 use Rattle.reader.specs.Entry.{own, own_layout}
 use Rattle.reader.specs.Holds.{Holds}
@@ -10,10 +10,6 @@ use Rattle.reader.specs.Holds.{Holds}
 -- a row as it stands among those that were shown: its length before it
 abbrev pub row_told : List ℕ → List ℕ
 row_told s = length s ∷ s
-
--- no row stands in front
-abbrev pub NoRow : List ℕ → Type 0
-NoRow xs = (row rest : List ℕ) → xs ≢ row_told row ++ rest
 
 -- how many numbers the rows take
 abbrev pub room_for : List (List ℕ) → ℕ
@@ -34,7 +30,7 @@ pub record RanSo (m t m₁ shown : List ℕ) (end used : ℕ) : Type 0 where
 pub record MaySo (old : Loaded) (t m₁ shown : List ℕ) (end used : ℕ) : Type 0 where
   pub new : Loaded
   pub rows : List (List ℕ)
-  pub may : May everything t end rows old new
+  pub may : May core t end rows old new
   pub holds : Holds own_layout m₁ new
   pub shown_so : take used shown ≡ flat row_told rows
   pub used_so : used ≡ room_for rows
@@ -44,7 +40,7 @@ pub record NoRoom (old : Loaded) (t : List ℕ) (room : ℕ) : Type 0 where
   pub new : Loaded
   pub rows : List (List ℕ)
   pub end : ℕ
-  pub may : May everything t end rows old new
+  pub may : May core t end rows old new
   pub more : room < room_for rows
 
 abbrev pub RunsToItsEnd : (m t : List ℕ) → Option Ended → (m₁ shown : List ℕ) → Type 0

@@ -3,7 +3,7 @@ use Rattle.reader.specs.declared.commands.Request.{Request}
 use Rattle.reader.specs.Requests.{Decodes}
 use Rattle.reader.specs.Entry.{own_layout}
 use Rattle.reader.proofs.Main.{whole}
-use Rattle.reader.proofs.Refusals.{next_told, none_refused, load_told, read_told, expect_told}
+use Rattle.reader.proofs.Refusals.{next_told, none_refused, what_next_refused, load_told, read_told}
 use Rattle.reader.proofs.Telling.{not_told, told_next, told_said, sizes}
 use Rattle.reader.proofs.step.Goals as goal
 
@@ -57,16 +57,10 @@ returns-in-Read c =
       whole = whole;
     }
 
-pub expect-requires : goal.expect-requires
-expect-requires c = let z = sizes c.args.memory.now c.args.kind c.args.text.now c.args.out.now c.if-not-sizes_fit.ensures in
-    let d = subst (λ (x : Request). Decodes c.args.text.now (Some x)) c.in-Next.is c.in-Some.ensures in
-    record { text = d.2; behind = omega arith; lent = omega (arith, z.own_size); room = z.room }
-
 pub returns-in-Next : goal.returns-in-Next
-unfolding own_layout
 returns-in-Next c =
     let d = subst (λ (x : Request). Decodes c.args.text.now (Some x)) c.in-Next.is c.in-Some.ensures in
     record {
-      says = told_said _ _ _ _ c.if-not-sizes_fit.ensures _ _ _ c.if-kind-eq1.false (λ i. (c.type_inv.text i).fits) (expect_told own_layout _ _ _ _ _ _ _ d.0 (c.expect.ensures own_layout refl refl refl));
+      says = told_said _ _ _ _ c.if-not-sizes_fit.ensures _ _ _ c.if-kind-eq1.false (λ i. (c.type_inv.text i).fits) (what_next_refused _ _ _ _ _ d.0);
       whole = whole;
     }

@@ -1,10 +1,12 @@
-use Rattle.std.proofs.Common.{◌≡◌, suc, ◌-◌, ◌*◌, ◌^◌, length, drop, replicate, refl, ap, ◌∙◌, ap₂, add-one, arith, rules}
-use Rattle.std.proofs.lemmas.List.{take_rest}
+use Rattle.std.proofs.Common.{◌≡◌, ◌-◌, ◌*◌, ◌^◌, length, replicate, refl, ap, ◌∙◌, ap₂, arith, rules}
+use Rattle.words.specs.Packed.{unpacked}
+use Rattle.words.proofs.Packing.{unpacked_zeroes}
 use Rattle.grammar.specs.Grammar.{Grammar}
 use Rattle.grammar.specs.Table.{Shows}
 use Rattle.grammar.specs.Analysed.{Analysed}
-use Rattle.parser.specs.Drive.{ending, run_for, check_of}
-use Rattle.parser.specs.Told.{config_of, ended, halted}
+use Rattle.items.specs.Sets.{start_set}
+use Rattle.parser.specs.Drive.{config, run_for, start_config, check_of}
+use Rattle.parser.specs.Told.{ended}
 use Rattle.parser.proofs.DriveTheorems.{checked_so}
 use Rattle.parser.proofs.check.check.Goals as goal
 
@@ -19,21 +21,17 @@ returns-then-fuel-work c =
     }
 
 pub returns : goal.returns
-unfolding check_of
+unfolding check_of start_config
 returns c =
-    let ts = c.args.text.now in
-    let fuel = c.args.fuel in
-    let long : length c.run-halt.new.work ≡ length c.args.work.now = search rules in
+    let long : length c.run-ending.new.work ≡ length c.args.work.now = search rules in
     let value : (g : Grammar) → Shows c.args.table.now g → Analysed g c.args.analysis.now →
-    ended c.end_at-ending.result ≡ check_of g ts (8 * (length c.args.work.now - fuel)) (2 ^ (64 * fuel) - 1) = λ g s a.
-    c.end_at-ending.ensures
-    ∙ ap (λ z. ending ts (halted c.run-halt.result (config_of z c.run-halt.new.state))) (take_rest c.run-halt.new.work fuel)
-    ∙ ap (ending ts) (c.run-halt.ensures g s a)
-    ∙ ap₂ (λ m k. ending ts (run_for m k g ts (config_of (drop fuel c.begin-state.new.work) c.begin-state.result))) c.begin-state.ensures.moves (add-one (length ts))
-    ∙ ap (λ x. ending ts (run_for (2 ^ (64 * fuel) - 1) (suc (length ts)) g ts x)) (c.begin-state.ensures.stack g s a) in
+    ended c.run-ending.result ≡ check_of g c.args.text.now (8 * (length c.args.work.now - c.args.fuel)) (2 ^ (64 * c.args.fuel) - 1) = λ g s a.
+    c.run-ending.ensures g s a
+    ∙ ap₂ (λ m cells. run_for m g c.args.text.now (config (unpacked cells) 0 0 (start_set g))) c.prepare.ensures.moves c.prepare.ensures.stack
+    ∙ ap (λ cells. run_for (2 ^ (64 * c.args.fuel) - 1) g c.args.text.now (config cells 0 0 (start_set g))) (unpacked_zeroes (length c.args.work.now - c.args.fuel)) in
     record {
       value = λ l. value;
       cleared = λ l. c.zeroes.ensures ∙ ap (λ n. replicate n 0) long;
       refused = λ l. absurd (omega arith);
-      meaning = λ g s a u h f l room moves. checked_so g ts _ _ _ s.fits u h f room moves (value g s a);
+      meaning = λ g s a u h f l room moves. checked_so g c.args.text.now _ _ _ s.fits u h f room moves (value g s a);
     }
