@@ -6,8 +6,8 @@ use Rattle.parser.proofs.config.move_once.Goals as goal
 pub returns-in-Reduce : goal.returns-in-Reduce
 returns-in-Reduce c g s a =
     let act = moved_reduce g c.args.text.now (config_of c.args.stack.now c.args.state.now) c.lookahead-sign.result c.lookahead-sign.ensures
-    c.in-Reduce.rule (c.in-Reduce.ensures g s) in
-    told_as act.1 (c.reduce.ensures g s a act.0)
+    _ (c.in-Reduce.ensures g s) in
+    told_as act.1 (search (rules, s, a, act.0))
 
 pub returns-in-Shift : goal.returns-in-Shift
 returns-in-Shift c g s a =
