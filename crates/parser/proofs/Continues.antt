@@ -6,7 +6,7 @@ use Rattle.conflicts.specs.Conflicts.{NoConflict}
 use Rattle.parser.specs.Runs.{Run}
 use Rattle.parser.specs.Moves.{TestsMoves, Stuck, Halts}
 use Rattle.parser.specs.Outcomes.{Continues, goes_on_by, wrong_before_end}
-use Rattle.parser.proofs.Rows.{passing}
+use Rattle.parser.specs.Rows.{passing}
 use Rattle.parser.proofs.Halts.{halts}
 use Rattle.parser.proofs.Wrong.{to_last_shift, shifted_begins, stuck_not_begun, stuck_wrong_at_sign}
 use Rattle.parser.proofs.NextSigns.{follows}

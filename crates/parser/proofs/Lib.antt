@@ -23,11 +23,14 @@ pub mod Theorems
 pub mod Steps
 pub mod ToldMoves
 pub mod CheckLoop
+pub mod RunLoop
 pub mod AdvanceLoop
 pub mod Kept
 pub mod Stands
 pub mod DriveMoves
+pub mod Halting
 pub mod Checking
+pub mod Following
 pub mod Telling
 pub mod FirstRule
 pub mod DriveTheorems

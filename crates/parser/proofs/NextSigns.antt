@@ -16,7 +16,8 @@ use Rattle.parser.proofs.Runs.{run_append, accepts_made}
 use Rattle.parser.proofs.Sound.{made_accepts}
 use Rattle.parser.proofs.Deterministic.{beginning_of_stuck}
 use Rattle.parser.proofs.Reached.{SomeItem, accepted_stuck}
-use Rattle.parser.proofs.Rows.{passing, rising_passing, passing_below, has_passing}
+use Rattle.parser.specs.Rows.{passing}
+use Rattle.parser.proofs.Rows.{rising_passing, passing_below, has_passing}
 use Rattle.parser.proofs.Halts.{GoesOn, goes_on}
 use Rattle.parser.proofs.Wrong.{ToLastShift, item_at_last_shift, shifted_begins}
 

@@ -6,8 +6,9 @@ use Rattle.grammar.specs.Grammar.{every, Grammar, AllUseful, Enough}
 use Rattle.grammar.specs.Table.{Shows}
 use Rattle.grammar.specs.Analysed.{Analysed}
 use Rattle.parser.specs.declared.check.Ending.{Ending as EndingTold}
-use Rattle.parser.specs.DriveStatements.{Checked, most_symbols, most_moves}
-use Rattle.parser.specs.Told.{ended}
+use Rattle.parser.specs.declared.next.Following.{Following as FollowingTold}
+use Rattle.parser.specs.DriveStatements.{Checked, GoesOn, most_symbols, most_moves}
+use Rattle.parser.specs.Told.{ended, followed}
 
 -- with n words lent, of which the first hold the countdown: if there is room for the stack and the moves of such a text, it is accepted just if it is made,
 -- and else wrong at the first wrong place
@@ -15,3 +16,9 @@ abbrev pub Checks : Table → Analysis → (n fuel : ℕ) → List ℕ → Endin
 Checks table a n fuel text r =
     (g : Grammar) → Shows table g → Analysed g a → AllUseful g → Enough g → every (λ t. nat_lt t 24) text ≡ true → fuel ≤ n →
     most_symbols (length text) ≤ 8 * (n - fuel) → most_moves (length text) ≤ 2 ^ (64 * fuel) - 1 → Checked g text (ended r)
+
+-- and so of how it goes on: by just these signs, or it begins no text and is wrong at the first wrong place
+abbrev pub TellsNext : Table → Analysis → (n fuel : ℕ) → List ℕ → FollowingTold → Type 0
+TellsNext table a n fuel text r =
+    (g : Grammar) → Shows table g → Analysed g a → AllUseful g → Enough g → every (λ t. nat_lt t 24) text ≡ true → fuel ≤ n →
+    most_symbols (length text) ≤ 8 * (n - fuel) → most_moves (length text) ≤ 2 ^ (64 * fuel) - 1 → GoesOn g text (followed r)

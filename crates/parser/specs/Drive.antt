@@ -1,8 +1,11 @@
--- The parser that is driven by item sets: one move, a silent run to its end, and the run on to the next rule. Assumes nothing: these are definitions.
-use Rattle.std.specs.Prelude.{ℕ, zero, suc, ◌+◌, ◌-◌, ◌&&◌, List, [], ◌∷◌, length, replicate, ◌==◌, nat_lt, slice_index, slice_index_or, slice_set}
+-- The parser that is driven by item sets: one move, a silent run to its end, a run to the end of the text, and the run on to the next rule. Assumes nothing: these
+-- are definitions.
+use Rattle.std.specs.Prelude.{ℕ, zero, suc, ◌+◌, ◌-◌, ◌&&◌, List, [], ◌∷◌, length, replicate, ◌==◌, nat_le, nat_lt, slice_index, slice_index_or, slice_set}
 use Rattle.words.specs.Packed.{stacked}
 use Rattle.grammar.specs.Grammar.{pick, Grammar, rule}
 use Rattle.items.specs.Sets.{start_set, goto, reduce_at, shift_at}
+use Rattle.items.specs.Actions.{acts_at}
+use Rattle.parser.specs.Rows.{passing}
 
 -- the item set behind a stack of codes, top first
 unfoldable pub items_of : Grammar → List ℕ → List ℕ
@@ -80,6 +83,37 @@ start_config g room = config (replicate room 0) 0 0 (start_set g)
 
 unfoldable pub check_of : Grammar → List ℕ → ℕ → ℕ → Ending
 check_of g ts room moves = run_for moves g ts (start_config g room)
+
+-- A RUN, of so many moves at most, until so many signs are taken: it comes there; or there is no move before; or the moves or the room gave out
+pub data Halt : Type 0 where
+  arrives : Config → Halt
+  sticks : Config → Halt
+  gives_out : Halt
+
+unfoldable pub on_stepped : (Config → Halt) → Config → Moved → Halt
+on_stepped go c (shifted d) = go d
+on_stepped go c (reduced r d) = go d
+on_stepped go c stuck = sticks c
+on_stepped go c full = gives_out
+
+unfoldable pub run_to : ℕ → ℕ → Grammar → List ℕ → Config → Halt
+run_to zero last g ts c = gives_out
+run_to (suc n) last g ts c = pick (nat_le last c.taken) (arrives c) (on_stepped (run_to n last g ts) c (moved g ts c))
+
+-- WHAT MAY COME NEXT: right behind the last sign, before any rule is reduced there, the signs and the end before which there is an action; or the text is
+-- wrong at a place before
+pub data Following : Type 0 where
+  followed_by : List ℕ → Following
+  wrong_before : ℕ → Following
+  unknown : Following
+
+unfoldable pub following : Grammar → Halt → Following
+following g (arrives c) = followed_by (passing (acts_at g c.items) 25 0)
+following g (sticks c) = wrong_before c.taken
+following g gives_out = unknown
+
+unfoldable pub next_of : Grammar → List ℕ → ℕ → ℕ → Following
+next_of g ts room moves = following g (run_to moves (length ts) g ts (start_config g room))
 
 -- ON TO THE NEXT RULE that is reduced: which, and the configuration then
 pub data Advanced : Type 0 where

@@ -2,8 +2,8 @@
 use Rattle.std.specs.Prelude.{◌≡◌, ℕ, suc, ◌+◌, ◌*◌, ◌^◌, ◌≤◌, true, not, List, [], ◌∷◌, ◌++◌, length, ◌==◌, nat_lt}
 use Rattle.words.specs.Packed.{stacked}
 use Rattle.grammar.specs.Grammar.{Grammar, every, backwards, a_grammar, AllUseful, Enough, Makes}
-use Rattle.grammar.specs.Texts.{NotMade, FirstWrong}
-use Rattle.parser.specs.Drive.{items_of, Config, Ending, accepted, wrong, gave_out, start_config, check_of, ends, none, advance_of}
+use Rattle.grammar.specs.Texts.{Begins, NotBegins, NotMade, FirstWrong, Follows}
+use Rattle.parser.specs.Drive.{items_of, Config, Ending, accepted, wrong, gave_out, start_config, check_of, Following, followed_by, wrong_before, unknown, next_of, ends, none, advance_of}
 
 -- symbols on the stack, and moves, on a text of at most n signs
 abbrev pub most_symbols : ℕ → ℕ
@@ -23,6 +23,18 @@ unfoldable pub CheckIsExact : Type 0
 CheckIsExact =
     (g : Grammar) → a_grammar g ≡ true → AllUseful g → Enough g → (n : ℕ) (ts : List ℕ) → length ts ≤ n → every (λ t. nat_lt t 24) ts ≡ true →
     (room moves : ℕ) → most_symbols n ≤ room → most_moves n ≤ moves → Checked g ts (check_of g ts room moves)
+
+-- what is said of how a text goes on
+unfoldable pub GoesOn : Grammar → List ℕ → Following → Type 0
+GoesOn g ts (followed_by ks) = Begins g ts × Follows g ts ks
+GoesOn g ts (wrong_before p) = NotBegins g ts × FirstWrong g ts p
+GoesOn g ts unknown = ⊥
+
+-- With room and moves enough, the run right behind the last sign tells what may come next, and of what begins no text it says where it is first wrong.
+unfoldable pub NextIsExact : Type 0
+NextIsExact =
+    (g : Grammar) → a_grammar g ≡ true → AllUseful g → Enough g → (n : ℕ) (ts : List ℕ) → length ts ≤ n → every (λ t. nat_lt t 24) ts ≡ true →
+    (room moves : ℕ) → most_symbols n ≤ room → most_moves n ≤ moves → GoesOn g ts (next_of g ts room moves)
 
 -- the item set need not be remembered: it is that of the stack
 abbrev pub Kept : Grammar → Config → Type 0

@@ -2,6 +2,7 @@ pub mod Runs
 pub mod Moves
 pub mod Outcomes
 pub mod Statements
+pub mod Rows
 pub mod Drive
 pub mod Told
 pub mod DriveStatements

@@ -1,13 +1,19 @@
 -- What the answers of the code say, in configurations. Assumes nothing: these are definitions.
 use Rattle.std.specs.Prelude.{◌≡◌, ℕ, Bool, true, false, List, replicate, Some, None, Option}
+use Rattle.words.specs.Bits.{has_bit}
 use Rattle.words.specs.Packed.{unpacked}
 use Rattle.items.specs.Sets.{no_items}
 use Rattle.parser.specs.declared.check.Ending.{Ending as EndingTold}
 use Rattle.parser.specs.declared.check.Ending.TheVariants.{Accepted, Wrong, GaveOut}
+use Rattle.parser.specs.declared.next.Following.{Following as FollowingTold}
+use Rattle.parser.specs.declared.next.Following.TheVariants.{Signs, Wrong as WrongBefore, GaveOut as Unknown}
+use Rattle.parser.specs.declared.run.Halt.{Halt as HaltTold}
+use Rattle.parser.specs.declared.run.Halt.TheVariants.{Arrived, Stuck as StuckThere, GaveOut as GaveOutThere}
 use Rattle.parser.specs.declared.config.State.{State}
 use Rattle.parser.specs.declared.config.Move.{Move}
 use Rattle.parser.specs.declared.config.Move.TheVariants.{Shifted, Reduced, Stuck, Full}
-use Rattle.parser.specs.Drive.{Config, config, Moved, shifted, reduced, stuck, full, Ending, accepted, wrong, gave_out, Advanced, ends, none}
+use Rattle.parser.specs.Rows.{passing}
+use Rattle.parser.specs.Drive.{Config, config, Moved, shifted, reduced, stuck, full, Halt, arrives, sticks, gives_out, Ending, accepted, wrong, gave_out, Following, followed_by, wrong_before, unknown, Advanced, ends, none}
 
 -- the configuration of the room for a stack and a state
 abbrev pub config_of : List ℕ → State → Config
@@ -31,6 +37,21 @@ stays Full = true
 pub record Told (m : Moved) (c : Config) (r : Move) (d : Config) : Type 0 where
   pub is : m ≡ moved_by r d
   pub kept : stays r ≡ true → d ≡ c
+
+-- where a run stopped, with the configuration then
+unfoldable pub halted : HaltTold → Config → Halt
+halted Arrived c = arrives c
+halted StuckThere c = sticks c
+halted GaveOutThere c = gives_out
+
+-- what was told of how a text goes on: the numbers up to 24 whose bits are set
+abbrev pub signs_in : ℕ → List ℕ
+signs_in mask = passing (λ t. has_bit t mask) 25 0
+
+unfoldable pub followed : FollowingTold → Following
+followed (Signs mask) = followed_by (signs_in mask)
+followed (WrongBefore k) = wrong_before k
+followed Unknown = unknown
 
 -- the ending that was told
 unfoldable pub ended : EndingTold → Ending

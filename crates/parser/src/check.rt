@@ -10,11 +10,11 @@ ghost use Rattle.parser.specs.Drive.{check_of, config, ending as ending_of, gave
 ghost use Rattle.parser.specs.Checks.{Checks};
 ghost use Rattle.parser.specs.Told.{Told, config_of, ended};
 
-use crate::config::{Move, State, move_once};
+use crate::config::{Move, State};
+use crate::run::{pay, prepare, take_move};
 use grammar::analysis::Analysis;
 use grammar::table::{FIRST_NAME, Table};
 use items::sets::start;
-use words::countdown::{fill, tick};
 use words::packed::read;
 use words::rows::zeroes;
 
@@ -27,41 +27,6 @@ pub enum Ending {
     Wrong(u64),
     /// The moves or the room gave out.
     GaveOut,
-}
-
-/// Sets the number of moves to the largest that the first words can hold, and clears the stack.
-fn prepare(work: &mut [u64], fuel: usize)
-    requires { fuel ≤ length work.old }
-    ensures moves { value (take fuel work.new) ≡ 2 ^ (64 * fuel) - 1 }
-    ensures stack { drop fuel work.new ≡ replicate (length work.old - fuel) 0 }
-{
-    zeroes(work);
-    fill(&mut work[0..fuel]);
-}
-
-/// Takes one from the number of moves, and says whether there was one.
-fn pay(work: &mut [u64], fuel: usize) -> bool
-    requires { fuel ≤ length work.old }
-    ensures moves { Ticked (take fuel work.old) (take fuel work.new) result }
-    ensures stack { drop fuel work.new ≡ drop fuel work.old }
-{
-    tick(&mut work[0..fuel])
-}
-
-/// One move over the stack.
-fn take_move(
-    work: &mut [u64],
-    fuel: usize,
-    state: &mut State,
-    text: &[u8],
-    table: &Table,
-    analysis: &Analysis,
-) -> Move
-    requires { fuel ≤ length work.old }
-    ensures moves { take fuel work.new ≡ take fuel work.old }
-    ensures told { (g : Grammar) → Shows table.now g → Analysed g analysis.now → Told (moved g text.now (config_of (drop fuel work.old) state.old)) (config_of (drop fuel work.old) state.old) result (config_of (drop fuel work.new) state.new) }
-{
-    move_once(&mut work[fuel..], state, text, table, analysis)
 }
 
 /// Whether all is taken, and the beginning's name alone stands on the stack.

@@ -4,10 +4,12 @@
 pub mod advance;
 pub mod check;
 pub mod config;
+pub mod next;
+mod run;
 
 ghost use Rattle.parser.specs.Statements.{RunsAreReadings, RunsAreOneWay, RunsDoNotRepeat, StackIsBounded, MovesAreBounded};
 ghost use Rattle.parser.specs.Statements.{ShiftedBeginsAText, WrongPlaceIsFirst, TextsAreRead, NextSignsAreMoves, NextSignsAreKnown};
-ghost use Rattle.parser.specs.DriveStatements.{CheckIsExact, ItemsAreKept, TellingIsTheReading};
+ghost use Rattle.parser.specs.DriveStatements.{CheckIsExact, ItemsAreKept, NextIsExact, TellingIsTheReading};
 
 /// Runs accept the texts, and what they reduce, backwards, are the readings.
 pub fn runs_are_readings() -> u8
@@ -82,6 +84,13 @@ pub fn next_signs_are_known() -> u8
 /// The silent run of the parser that is driven by item sets accepts the texts, and says of every other row where it is first wrong.
 pub fn check_is_exact() -> u8
     ensures { CheckIsExact }
+{
+    0
+}
+
+/// The run right behind the last sign of a text tells what may come next, and says of what begins no text where it is first wrong.
+pub fn next_is_exact() -> u8
+    ensures { NextIsExact }
 {
     0
 }

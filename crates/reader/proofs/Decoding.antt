@@ -66,7 +66,7 @@ unfolding decode spells
 decode_none [] h = refl
 decode_none (x ∷ xs) h = absurd (omega arith)
 
-cons_of : (xs body : List ℕ) (k : ℕ) → 1 ≤ length xs → body ≡ drop 1 xs → get_or xs 0 0 ≡ k → xs ≡ k ∷ body
+pub cons_of : (xs body : List ℕ) (k : ℕ) → 1 ≤ length xs → body ≡ drop 1 xs → get_or xs 0 0 ≡ k → xs ≡ k ∷ body
 cons_of [] body k long cut e = absurd (omega arith)
 cons_of (x ∷ xs) body k long cut e = cc
 

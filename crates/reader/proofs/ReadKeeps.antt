@@ -1,4 +1,4 @@
--- What reading and telling keep of the memory, whatever stands there: its length, and that its numbers are small.
+-- What reading, telling and expecting keep of the memory, whatever stands there: its length, and that its numbers are small.
 use Rattle.std.proofs.Common.{◌≡◌, ℕ, zero, suc, ◌+◌, ◌*◌, ◌<◌, ◌≤◌, Bool, true, false, eqb, ltb, leb, List, [], ◌∷◌, length, get_or, take, drop, sym, refl, ap, ◌∙◌, arith, lit<, length-take}
 use Rattle.std.proofs.lemmas.Bool.{and_parts, leb-true, ltb-true}
 use Rattle.words.specs.Packed.{packed}
@@ -10,11 +10,11 @@ use Rattle.grammar.specs.Spelling.{grammar_ok, grammar_of}
 use Rattle.grammar.proofs.Lists.{never}
 use Rattle.grammar.proofs.Spelled.{grammar_said, length_each}
 use Rattle.grammar.proofs.Sizes.{Sizes, sizes}
-use Rattle.parser.specs.Drive.{Config, Ending, accepted, wrong, gave_out, check_of, Advanced, ends, none, advance_of}
+use Rattle.parser.specs.Drive.{Config, Ending, accepted, wrong, gave_out, check_of, Following, followed_by, wrong_before, unknown, next_of, Advanced, ends, none, advance_of}
 use Rattle.reader.specs.House.{a_text, Loaded}
 use Rattle.reader.specs.Promise.{done, refused}
 use Rattle.reader.specs.Memory.{Layout, Apart, moves_of, phase_in, taken_in, with_phase, cleared, spelling_in, text_in, with_text, low_byte, stack_in, config_in, with_config, loaded}
-use Rattle.reader.specs.Machine.{kept, on_ended, tells_with, tells, on_ending, reads_with, reads, a_refusal, goes_on}
+use Rattle.reader.specs.Machine.{kept, on_ended, tells_with, tells, on_ending, reads_with, reads, on_following, expects_with, expects, a_refusal, goes_on}
 use Rattle.reader.proofs.MemoryLaws.{small, small_set, small_region, small_replaced, small_over, small_bytes}
 use Rattle.reader.proofs.Keeping.{Keeps, keeps_phase, keeps_cleared}
 use Rattle.reader.proofs.PackedBytes.{a_byte, bytes_unpacked, small_packed}
@@ -134,3 +134,17 @@ module _ (l : Layout) (apart : Apart l) (few : l.words ≤ 524288) (m ts : List 
 
   pub reads_keeps : Keeps m (reads l m ts).memory
   reads_keeps = with_loaded (loaded m)
+
+  following_keeps : (e : Following) → Keeps m (on_following (cleared l.work (l.fuel + l.stack) m) e).memory
+  unfolding on_following
+  following_keeps (followed_by ks) = keeps_phase 2 m _ (lit< tt) free
+  following_keeps (wrong_before p) = keeps_phase 4 m _ (lit< tt) free
+  following_keeps unknown = free
+
+  expects_loaded : (old : Loaded) → Keeps m (expects_with l m ts old).memory
+  unfolding expects_with
+  expects_loaded [] = (refl, λ s. s)
+  expects_loaded (g ∷ gs) = following_keeps (next_of g ts (8 * l.stack) (moves_of l.fuel))
+
+  pub expects_keeps : Keeps m (expects l m ts).memory
+  expects_keeps = expects_loaded (loaded m)

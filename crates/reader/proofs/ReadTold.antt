@@ -21,11 +21,11 @@ use Rattle.reader.proofs.Bytes.{bytes_taken}
 use Rattle.reader.proofs.Loading.{set_one}
 
 -- a layout with these three numbers
-abbrev laid : (words pairs pair_words w f s : ℕ) → Layout
+abbrev pub laid : (words pairs pair_words w f s : ℕ) → Layout
 laid words pairs pair_words w f s = record { words = words; work = w; fuel = f; stack = s; pairs = pairs; pair_words = pair_words }
 
 -- what holds of every layout that is made with them holds of every layout that has them
-for_layout : (P : Layout → Type 0) (w f s : ℕ) → ((x p q : ℕ) → P (laid x p q w f s)) → (l : Layout) → l.work ≡ w → l.fuel ≡ f → l.stack ≡ s → P l
+pub for_layout : (P : Layout → Type 0) (w f s : ℕ) → ((x p q : ℕ) → P (laid x p q w f s)) → (l : Layout) → l.work ≡ w → l.fuel ≡ f → l.stack ≡ s → P l
 for_layout P w f s h l ew ef es =
     let same : l ≡ laid l.words l.pairs l.pair_words w f s =
     λ i. record { words = l.words; work = ew i; fuel = ef i; stack = es i; pairs = l.pairs; pair_words = l.pair_words } in

@@ -4,7 +4,7 @@ use Rattle.grammar.specs.Grammar.{pick, every, Grammar, Clash}
 use Rattle.grammar.specs.Spelling.{grammar_spelled}
 use Rattle.grammar.specs.Analysis.{useless}
 use Rattle.conflicts.specs.Pairs.{clash_of}
-use Rattle.parser.specs.Drive.{Ending, accepted, wrong, gave_out, check_of, Advanced, ends, none, advance_of}
+use Rattle.parser.specs.Drive.{Ending, accepted, wrong, gave_out, check_of, Following, followed_by, wrong_before, unknown, next_of, Advanced, ends, none, advance_of}
 use Rattle.reader.specs.House.{Command, load, read_text, what_next, Loaded}
 use Rattle.reader.specs.Decode.{decode}
 use Rattle.reader.specs.Promise.{Engine, Event, said, next, Act, shows, done, refused, Step}
@@ -55,6 +55,19 @@ reads_with l m ts (g ∷ gs) = on_ending l (cleared l.work (l.fuel + l.stack) m)
 
 abbrev pub reads : Layout → List ℕ → List ℕ → Step
 reads l m ts = reads_with l m ts (loaded m)
+
+-- WHAT MAY COME NEXT: the text is run through silently, right behind its last sign; the signs that may come are shown, or the first wrong place
+unfoldable pub on_following : List ℕ → Following → Step
+on_following m₁ (followed_by ks) = kept (with_phase 2 m₁) (shows ks)
+on_following m₁ (wrong_before p) = refuses m₁ 4 (p ∷ [])
+on_following m₁ unknown = kept m₁ (refused 4)
+
+unfoldable pub expects_with : Layout → List ℕ → List ℕ → Loaded → Step
+expects_with l m ts [] = kept m (refused 3)
+expects_with l m ts (g ∷ gs) = on_following (cleared l.work (l.fuel + l.stack) m) (next_of g ts (8 * l.stack) (moves_of l.fuel))
+
+abbrev pub expects : Layout → List ℕ → List ℕ → Step
+expects l m ts = expects_with l m ts (loaded m)
 
 unfoldable pub commanded : Layout → List ℕ → List Command → Step
 commanded l m [] = kept m (refused 1)

@@ -1,5 +1,5 @@
 -- What is promised of one command that is run to its end: how it went, and that it is answered as it may be. Assumes nothing: these are definitions.
-use Rattle.std.specs.Prelude.{◌≡◌, ℕ, zero, ◌<◌, ◌≤◌, Bool, ◌&&◌, List, [], ◌∷◌, length, take, Some, None, Option, nat_le, nat_lt}
+use Rattle.std.specs.Prelude.{◌≡◌, ℕ, zero, ◌<◌, ◌≤◌, Bool, ◌&&◌, List, [], ◌∷◌, ◌++◌, length, take, Some, None, Option, ◌≢◌, nat_le, nat_lt}
 use Rattle.grammar.specs.Spelling.{flat}
 use Rattle.reader.specs.declared.run.Ended.{Ended}
 use Rattle.reader.specs.House.{Loaded, core}
@@ -10,6 +10,10 @@ use Rattle.reader.specs.Holds.{Holds}
 -- a row as it stands among those that were shown: its length before it
 abbrev pub row_told : List ℕ → List ℕ
 row_told s = length s ∷ s
+
+-- no row stands in front
+abbrev pub NoRow : List ℕ → Type 0
+NoRow xs = (row rest : List ℕ) → xs ≢ row_told row ++ rest
 
 -- how many numbers the rows take
 abbrev pub room_for : List (List ℕ) → ℕ

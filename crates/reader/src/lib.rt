@@ -14,6 +14,8 @@ use grammar::{analysis, table};
 use memory::{PHASE, keep};
 
 pub mod commands;
+// proved, and not yet a command that `step` knows
+mod expecting;
 mod memory;
 mod reading;
 pub mod run;

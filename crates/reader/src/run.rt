@@ -1,6 +1,6 @@
 // One command to its end, and the rows that are shown on the way, in a lent row.
-ghost use Rattle.std.specs.Prelude.{◌≡◌, ◌+◌, ◌<◌, ◌++◌, length, take};
-ghost use Rattle.reader.specs.Running.{AnswersAsItMay, AnswersIfRoom, RunsToItsEnd, StartsWithNothing, refusal_number, row_told};
+ghost use Rattle.std.specs.Prelude.{◌≡◌, ◌+◌, ◌<◌, ◌++◌, length, take, MatchOption};
+ghost use Rattle.reader.specs.Running.{AnswersAsItMay, AnswersIfRoom, RunsToItsEnd, StartsWithNothing, NoRow, refusal_number, row_told};
 
 use super::{Told, sizes_fit, step};
 
@@ -62,6 +62,19 @@ pub fn run(memory: &mut [u64], text: &[u8], shown: &mut [u64]) -> Option<Ended>
             }
         }
     }
+}
+
+/// The first of the rows that `run` has written, and what is behind it; None where none stands.
+pub fn first_row(shown: &[u64]) -> Option<(&[u64], &[u64])>
+    ensures { MatchOption result (NoRow shown.now) (λ x. shown.now ≡ row_told x.0.now ++ x.1.now) }
+{
+    let [many, behind @ ..] = shown else {
+        return None;
+    };
+    if *many > behind.len() as u64 {
+        return None;
+    }
+    Some(behind.split_at(*many as usize))
 }
 
 /// In the memory that the machine starts with nothing is loaded: so what is said of the first command holds, and of each after it.

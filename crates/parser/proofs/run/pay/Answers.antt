@@ -1,7 +1,7 @@
 use Rattle.std.proofs.Common.{◌≡◌, ◌-◌, length, take, drop, sym, ap, ◌∙◌, subst, arith}
 use Rattle.std.proofs.lemmas.List.{take_at, drop_at, length-take-le}
 use Rattle.words.specs.Countdown.{Ticked}
-use Rattle.parser.proofs.check.pay.Goals as goal
+use Rattle.parser.proofs.run.pay.Goals as goal
 
 pub returns : goal.returns
 returns c =

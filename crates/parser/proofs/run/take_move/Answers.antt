@@ -3,7 +3,7 @@ use Rattle.std.proofs.lemmas.List.{take_rest}
 use Rattle.parser.specs.Drive.{moved}
 use Rattle.parser.specs.Told.{Told, config_of}
 use Rattle.parser.proofs.CheckLoop.{back_put, front_put}
-use Rattle.parser.proofs.check.take_move.Goals as goal
+use Rattle.parser.proofs.run.take_move.Goals as goal
 
 pub returns : goal.returns
 returns c =

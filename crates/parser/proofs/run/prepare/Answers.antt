@@ -1,7 +1,7 @@
 use Rattle.std.proofs.Common.{◌≡◌, ◌-◌, ◌*◌, ◌^◌, length, take, drop, replicate, ap, ◌∙◌, arith, rules}
 use Rattle.std.proofs.lemmas.List.{take_at, drop_at, length-take-le, drop-replicate}
 use Rattle.words.specs.Countdown.{value}
-use Rattle.parser.proofs.check.prepare.Goals as goal
+use Rattle.parser.proofs.run.prepare.Goals as goal
 
 pub returns : goal.returns
 returns c =

@@ -1,0 +1,63 @@
+// What may come next: a text is run through silently, and the signs that may come behind it are shown.
+ghost use Rattle.std.specs.Prelude.{◌≡◌, ◌+◌, ◌≤◌, true, length};
+ghost use Rattle.parser.specs.Told.{signs_in};
+ghost use Rattle.reader.specs.Entry.{StepTold};
+ghost use Rattle.reader.specs.House.{a_text};
+ghost use Rattle.reader.specs.Machine.{expects};
+ghost use Rattle.reader.specs.Memory.{Layout, over};
+
+use crate::Told;
+use crate::memory::{PHASE, loaded};
+use grammar::analysis::analyse;
+use parser::next::{Following, next_signs};
+use words::bits::test;
+
+/// The signs of a mask, and 24 for the end, rising, at the front of the lent row; and how many they are.
+fn show_signs(mask: u64, out: &mut [u64]) -> u64
+    requires { 25 ≤ length out.old }
+    ensures row { out.new ≡ over (signs_in mask) out.old }
+    ensures many { result ≡ length (signs_in mask) }
+{
+    let mut many = 0;
+    'sign: for sign in 0..25u64 {
+        if test(mask, sign) {
+            out[many] = sign;
+            many += 1;
+        }
+    }
+    many as u64
+}
+
+/// The signs that may come behind the text are shown, or the first wrong place, if no text begins so.
+pub fn expect(
+    memory: &mut [u64],
+    work: usize,
+    fuel: usize,
+    stack: usize,
+    signs: &[u8],
+    out: &mut [u64],
+) -> Told
+    requires text { a_text signs.now ≡ true }
+    requires behind { 4358 ≤ work }
+    requires lent { work + (fuel + stack) ≤ length memory.old }
+    requires room { 32 ≤ length out.old }
+    ensures { (l : Layout) → l.work ≡ work → l.fuel ≡ fuel → l.stack ≡ stack → StepTold (expects l memory.old signs.now) result out.old memory.new out.new }
+{
+    let Some(table) = loaded(memory) else {
+        return Told::No(3);
+    };
+    let analysis = analyse(&table);
+    let end = work + (fuel + stack);
+    match next_signs(&mut memory[work..end], fuel, signs, &table, &analysis) {
+        Following::Signs(mask) => {
+            memory[PHASE] = 2;
+            Told::Shows(show_signs(mask, out))
+        }
+        Following::Wrong(place) => {
+            memory[PHASE] = 4;
+            out[0] = place;
+            Told::Shows(1)
+        }
+        Following::GaveOut => Told::No(4),
+    }
+}
