@@ -14,9 +14,7 @@ mod PackedBytes
 mod TextLaws
 mod Advancing
 mod Showing
-mod TextAnswered
 mod ReadAnswered
-mod NextAnswered
 mod NextTold
 mod ReadKeeps
 mod Said

@@ -37,7 +37,7 @@ module _ (l : Layout) (apart : Apart l) where
           answered_by core (machine l) (Holds l) m old t 1 m [] 1 old (refused_at_once m t 1 h.long f (rw d) (omega arith) (omega arith))
           (inr (inr (none_said t d, refl, refl, refl))) h
       go (load g ∷ cs) d = load_answered l apart m old t g h f (d ∙ ap (λ (xs : List Command). load g ∷ xs) (said_of t (load g) cs d).1)
-      go (read_text ts ∷ cs) d = read_answered l apart m t ts f (d ∙ ap (λ (xs : List Command). read_text ts ∷ xs) (said_of t (read_text ts) cs d).1) old h
+      go (read_text ts ∷ cs) d = read_answered l apart m old t ts h f (d ∙ ap (λ (xs : List Command). read_text ts ∷ xs) (said_of t (read_text ts) cs d).1)
       go (what_next ts ∷ cs) d =
           answered_by core (machine l) (Holds l) m old t 1 m [] 2 old (refused_at_once m t 2 h.long f (rw d) (omega arith) (omega arith))
           (inr (inl (what_next ts, (said_of t (what_next ts) cs d).0, refl, refl, refl, refl))) h

@@ -10,11 +10,11 @@ use Rattle.grammar.proofs.Sizes.{Sizes}
 use Rattle.parser.specs.Drive.{Config, config, items_of, ends, advance_of, start_config}
 use Rattle.parser.specs.DriveStatements.{Kept, Tells}
 use Rattle.parser.proofs.Kept.{start_kept}
-use Rattle.reader.specs.Promise.{Event, next, shows, ran, runs, one_act}
+use Rattle.reader.specs.Promise.{Event, next, shows, done, ran, runs, one_act}
 use Rattle.reader.specs.Memory.{Layout, Apart, phase_in, height_in, taken_in, text_in, with_text, with_phase, stack_in, config_in, with_config, cleared, loaded}
 use Rattle.reader.specs.Machine.{kept, tells, tells_with, on_ended, goes_on, answered, event_fits, stepped, machine}
 use Rattle.reader.proofs.MemoryLaws.{loaded_set}
-use Rattle.reader.proofs.Steps.{stepped_fits, told_all}
+use Rattle.reader.proofs.Steps.{stepped_fits}
 use Rattle.reader.proofs.PackedBytes.{a_byte, bytes_unpacked, unpacked_packed}
 use Rattle.reader.proofs.Advancing.{Sized, advance_sized}
 use Rattle.reader.proofs.TextLaws.{config_length, config_phase, config_height, config_taken, config_stack, config_text, config_loaded}
@@ -93,6 +93,11 @@ module _ (l : Layout) (apart : Apart l) (g : Grammar) (fits : Sizes g) (ts : Lis
           items = k;
         }
 
+  -- all was told
+  told_all : (m : List ℕ) → length m ≡ l.words → phase_in m ≡ 2 → stepped l m next ≡ kept (with_phase 0 m) done
+  unfolding answered goes_on event_fits
+  told_all m long e = stepped_fits l m next long refl ∙ rw e
+
   last_rule : (m : List ℕ) (c d : Config) (before : List (List ℕ)) → Showing l g ts m c → advance_of g ts c ≡ ends 0 d → Shown l g m next before ((0 ∷ []) ∷ [])
   unfolding runs one_act machine
   last_rule m c d before s e =
@@ -104,7 +109,7 @@ module _ (l : Layout) (apart : Apart l) (g : Grammar) (fits : Sizes g) (ts : Lis
       record {
         steps = 1;
         memory = with_phase 0 m₁;
-        went = rw (goes_rule m c d 0 s e) (rw (told_all l m₁ n p));
+        went = rw (goes_rule m c d 0 s e) (rw (told_all m₁ n p));
         long = length-set m₁ 258 0 ∙ n;
         grammar = loaded_set 258 0 m₁ (omega arith) ∙ h;
       }

@@ -2,9 +2,9 @@
 use Rattle.std.proofs.Common.{◌≡◌, ℕ, suc, ◌<◌, ◌≤◌, true, false, ◌&&◌, eqb, ltb, leb, List, [], ◌∷◌, length, refl, ◌∙◌, arith, length-set, get_or-set_same}
 use lib.ListN.{length-replicate}
 use Rattle.std.proofs.lemmas.Bool.{and_from, eq-eqb, ne_eqb, le-leb, lt-ltb}
-use Rattle.reader.specs.Promise.{Event, said, next, shows, done, runs, ran, one_act}
+use Rattle.reader.specs.Promise.{Event, said, next, runs, ran, one_act}
 use Rattle.reader.specs.Memory.{Layout, phase_in, with_phase}
-use Rattle.reader.specs.Machine.{machine, stepped, answered, goes_on, a_refusal, kept, refuses, event_fits, row_fits}
+use Rattle.reader.specs.Machine.{machine, stepped, answered, goes_on, a_refusal, refuses, event_fits, row_fits}
 use Rattle.reader.specs.Entry.{own, own_layout}
 
 pub machine_length : (l : Layout) → length (machine l).start ≡ l.words
@@ -53,17 +53,3 @@ pub refused_shown : (l : Layout) (m t m₁ row : List ℕ) (k : ℕ) → length 
 unfolding one_act event_fits
 refused_shown l m t m₁ row k e f s e₁ h r a b =
     runs_step l 1 m (said t) [] e f ∙ rw (s, le-leb (length row) 32 r) (refused_next l m₁ k (row ∷ []) e₁ h a b)
-
--- all was shown
-pub told_all : (l : Layout) (m : List ℕ) → length m ≡ l.words → phase_in m ≡ 2 → stepped l m next ≡ kept (with_phase 0 m) done
-unfolding answered goes_on event_fits
-told_all l m long e = stepped_fits l m next long refl ∙ rw e
-
--- a row is shown, and that is all
-pub done_shown : (l : Layout) (m t m₁ row : List ℕ) → length m ≡ l.words → row_fits t ≡ true → answered l m (said t) ≡ kept (with_phase 2 m₁) (shows row) →
-    length m₁ ≡ l.words → 258 < length m₁ → length row ≤ 32 → runs 2 (machine l) m (said t) [] ≡ ran (with_phase 0 (with_phase 2 m₁)) (row ∷ []) 0
-unfolding runs one_act machine event_fits
-done_shown l m t m₁ row e f s e₁ h r =
-    let a : stepped l m (said t) ≡ kept (with_phase 2 m₁) (shows row) = stepped_fits l m (said t) e f ∙ s in
-    let b = told_all l (with_phase 2 m₁) (length-set m₁ 258 2 ∙ e₁) (get_or-set_same m₁ 258 2 0 h) in
-    rw (a, le-leb (length row) 32 r, b)
