@@ -2,6 +2,7 @@
 #![tactic(auto)]
 
 pub mod analysis;
+pub mod prepared;
 pub mod rows;
 pub mod spelling;
 pub mod statements;
