@@ -1,13 +1,13 @@
 -- What the code that finds pairs and clashes answers, where a table shows a grammar. Assumes nothing: these are definitions.
-use Rattle.std.specs.Prelude.{◌≡◌, ℕ, ◌<◌, List, [], ◌∷◌, Some, None, Option}
+use Rattle.std.specs.Prelude.{◌≡◌, ℕ, ◌<◌, List, [], ◌∷◌, Some, None, Option, unwrap_or}
 use Rattle.words.specs.Rows.{or_at}
-use Rattle.grammar.specs.declared.analysis.Analysis.{Analysis}
+use Rattle.grammar.specs.declared.prepared.Prepared.{Prepared}
 use Rattle.grammar.specs.declared.table.Table.{Table}
 use Rattle.grammar.specs.Grammar.{pick, Grammar, rule, Clash, Clashes, Enough}
 use Rattle.grammar.specs.Places.{places, rest, first_place_lem}
 use Rattle.grammar.specs.Rows.{begins_with}
 use Rattle.grammar.specs.Table.{Shows}
-use Rattle.grammar.specs.Analysed.{Analysed}
+use Rattle.grammar.specs.Prepared.{Describes}
 use Rattle.conflicts.specs.declared.clashes.ClashFound.{ClashFound}
 use Rattle.conflicts.specs.Pairs.{pair}
 
@@ -15,24 +15,28 @@ use Rattle.conflicts.specs.Pairs.{pair}
 abbrev pub ShownAt : Table → ℕ → ℕ → (Grammar → Type 0) → Type 0
 ShownAt t p q P = (g : Grammar) → Shows t g → p < places g → q < places g → P g
 
--- the words y come of x by the steps f of the grammar that the table shows
-abbrev pub Steps : Table → Analysis → (Grammar → List ℕ → List ℕ) → List ℕ → List ℕ → Type 0
-Steps t a f x y = (g : Grammar) → Shows t g → Analysed g a → y ≡ f g x
+-- the words y come of x by the steps f of the grammar that is prepared
+abbrev pub Steps : Prepared → (Grammar → List ℕ → List ℕ) → List ℕ → List ℕ → Type 0
+Steps d f x y = (g : Grammar) → Describes d g → y ≡ f g x
 
-abbrev pub StepsAt : Table → Analysis → ℕ → ℕ → (Grammar → List ℕ → List ℕ) → List ℕ → List ℕ → Type 0
-StepsAt t a p q f x y = (g : Grammar) → Shows t g → Analysed g a → p < places g → q < places g → y ≡ f g x
+abbrev pub StepsAt : Prepared → ℕ → ℕ → (Grammar → List ℕ → List ℕ) → List ℕ → List ℕ → Type 0
+StepsAt d p q f x y = (g : Grammar) → Describes d g → p < places g → q < places g → y ≡ f g x
 
 -- rule k is begun at p beside q with these two words, if it is for the name that is next at p
 abbrev pub begin_with : Grammar → ℕ → ℕ → ℕ → ℕ → ℕ → List ℕ → List ℕ
 begin_with g p q here there k w =
     pick (begins_with (rule g k).left (rest g p)) (or_at (or_at w (pair (first_place_lem g k) q) here) (pair q (first_place_lem g k)) there) w
 
+-- a clash as the definition has it, with the number 64 for going on
+abbrev pub clash_told : ClashFound → Clash
+clash_told c = record { due = c.due; other = unwrap_or c.other 64; ahead = c.ahead }
+
 -- a clash was found, as the definition has it; or none
 abbrev pub Found : Option ClashFound → List Clash → Type 0
 Found None cs = cs ≡ []
-Found (Some c) cs = cs ≡ record { due = c.due; other = c.other; ahead = c.ahead } ∷ []
+Found (Some c) cs = cs ≡ clash_told c ∷ []
 
 -- what an answer says of a grammar whose names are all of use: one look ahead is enough, or this is a clash
 abbrev pub Tells : Grammar → Option ClashFound → Type 0
 Tells g None = Enough g
-Tells g (Some c) = Clashes g (record { due = c.due; other = c.other; ahead = c.ahead })
+Tells g (Some c) = Clashes g (clash_told c)

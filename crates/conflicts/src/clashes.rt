@@ -5,21 +5,24 @@ ghost use Rattle.words.specs.Rows.{size};
 ghost use Rattle.grammar.specs.Analysed.{Analysed};
 ghost use Rattle.grammar.specs.Grammar.{AllUseful, Grammar};
 ghost use Rattle.grammar.specs.Places.{places};
+ghost use Rattle.grammar.specs.Prepared.{Describes};
 ghost use Rattle.grammar.specs.Table.{Shows};
 ghost use Rattle.conflicts.specs.Pairs.{advance_pair, begun_both_lem as begun_both_of, begun_own as begun_own_of, clash_among_lem as clash_among_of, clash_at as clash_at_of, clash_in_row_lem as clash_in_row_of, clash_mask as clash_mask_of, clash_of, close_pair_lem, pair as pair_of, pair_round_lem as pair_round_of, pair_step as pair_step_of, pairs, word_of as word_of_parts};
 ghost use Rattle.conflicts.specs.PairSteps.{Found, ShownAt, Steps, StepsAt, Tells, begin_with};
 
 use grammar::analysis::Analysis;
+use grammar::prepared::Prepared;
 use grammar::table::{COMPLETE, Table};
 use items::sets::{END, is_next};
 use words::bits;
 use words::rows::{at, put, zeroes};
 
-/// A clash: the rule due, the other rule or 64 for going on, and the sign ahead or 24 for the end.
-#[derive(Clone, Copy)]
+/// A clash: the rule due, the other rule or none for going on, and the sign ahead or 24 for the end.
+#[derive(Clone, Copy, Debug, PartialEq, Eq)]
 pub struct ClashFound {
     pub due: u8,
-    pub other: u8,
+    pub other: Option<u8>,
+    // a number, since the end is a bit beside the signs' bits in every set of lookaheads
     pub ahead: u8,
 }
 
@@ -31,9 +34,6 @@ const WORDS: usize = 36864;
 
 /// The first place beside itself, before the end.
 const START: u64 = 1 << 24 | 1 << 49;
-
-/// What stands for going on, in place of a rule.
-const SHIFT: u8 = 64;
 
 /// From the word of a pair to that of the two next places.
 const NEXT: usize = 193;
@@ -130,18 +130,18 @@ fn word_of(own: u64, both: u64) -> u64
 }
 
 /// Begins every rule of the name that is next at `p`, beside `q`, with what is ahead there.
-fn close_pair(work: &mut [u64], table: &Table, analysis: &Analysis, p: usize, q: usize) -> bool
+fn close_pair(work: &mut [u64], grammar: &Prepared, p: usize, q: usize) -> bool
     requires { (p < 192) × (q < 192) }
-    ensures value { StepsAt table.now analysis.now p q (λ g. close_pair_lem g p q) work.old work.new }
+    ensures value { StepsAt grammar.now p q (λ g. close_pair_lem g p q) work.old work.new }
     ensures grew { Grew size work.old work.new result }
 {
     let here = at(work, pair(p, q));
     let there = at(work, pair(q, p));
-    let own = begun_own(analysis, p, here);
-    let both = begun_both(analysis, p, here, there);
+    let own = begun_own(&grammar.analysis, p, here);
+    let both = begun_both(&grammar.analysis, p, here, there);
     begin_rules(
         work,
-        table,
+        &grammar.table,
         p,
         q,
         word_of(own, both),
@@ -150,16 +150,16 @@ fn close_pair(work: &mut [u64], table: &Table, analysis: &Analysis, p: usize, q:
 }
 
 /// What a pair gives to others, if it came about at all.
-fn pair_step(work: &mut [u64], table: &Table, analysis: &Analysis, p: usize, q: usize) -> bool
+fn pair_step(work: &mut [u64], grammar: &Prepared, p: usize, q: usize) -> bool
     requires { (p < 192) × (q < 192) }
-    ensures value { StepsAt table.now analysis.now p q (λ g. pair_step_of g p q) work.old work.new }
+    ensures value { StepsAt grammar.now p q (λ g. pair_step_of g p q) work.old work.new }
     ensures grew { Grew size work.old work.new result }
 {
     if at(work, pair(p, q)) == 0 {
         return false;
     }
-    let advanced = advance(work, table, p, q);
-    let closed = close_pair(work, table, analysis, p, q);
+    let advanced = advance(work, &grammar.table, p, q);
+    let closed = close_pair(work, grammar, p, q);
     advanced || closed
 }
 
@@ -172,39 +172,39 @@ fn place_count(table: &Table) -> usize
 }
 
 /// The pairs of one place with each.
-fn pair_row(work: &mut [u64], table: &Table, analysis: &Analysis, p: usize) -> bool
+fn pair_row(work: &mut [u64], grammar: &Prepared, p: usize) -> bool
     requires { p < 192 }
-    ensures value { StepsAt table.now analysis.now p p (λ g. counted (places g) (pair_step_of g p)) work.old work.new }
+    ensures value { StepsAt grammar.now p p (λ g. counted (places g) (pair_step_of g p)) work.old work.new }
     ensures grew { Grew size work.old work.new result }
 {
-    let count = place_count(table);
+    let count = place_count(&grammar.table);
     let mut changed = false;
     'other: for q in 0..count {
-        changed |= pair_step(work, table, analysis, p, q);
+        changed |= pair_step(work, grammar, p, q);
     }
     changed
 }
 
 /// One round over all pairs; says whether it added a bit.
-fn pair_round(work: &mut [u64], table: &Table, analysis: &Analysis) -> bool
-    ensures value { Steps table.now analysis.now pair_round_of work.old work.new }
+fn pair_round(work: &mut [u64], grammar: &Prepared) -> bool
+    ensures value { Steps grammar.now pair_round_of work.old work.new }
     ensures grew { Grew size work.old work.new result }
 {
-    let count = place_count(table);
+    let count = place_count(&grammar.table);
     let mut changed = false;
     'place: for p in 0..count {
-        changed |= pair_row(work, table, analysis, p);
+        changed |= pair_row(work, grammar, p);
     }
     changed
 }
 
 /// All pairs, by rounds until one adds nothing.
-fn saturate(work: &mut [u64], table: &Table, analysis: &Analysis)
-    ensures { (g : Grammar) → Shows table.now g → Analysed g analysis.now → length work.old ≡ 36864 → work.new ≡ pairs g }
+fn saturate(work: &mut [u64], grammar: &Prepared)
+    ensures { (g : Grammar) → Describes grammar.now g → length work.old ≡ 36864 → work.new ≡ pairs g }
 {
     zeroes(work);
     put(work, 0, START);
-    'round: while pair_round(work, table, analysis) {}
+    'round: while pair_round(work, grammar) {}
 }
 
 /// The signs ahead with which a rule complete at `p` clashes with what comes at `q`.
@@ -235,11 +235,7 @@ fn clash_at(work: &[u64], table: &Table, p: usize, q: usize) -> Option<ClashFoun
     if mask == 0 {
         return None;
     }
-    let other = if table.symbol_at(q) == COMPLETE {
-        table.owner_of(q)
-    } else {
-        SHIFT
-    };
+    let other = (table.symbol_at(q) == COMPLETE).then_some(table.owner_of(q));
     Some(ClashFound {
         due: table.owner_of(p),
         other,
@@ -277,17 +273,17 @@ fn clash_among(work: &[u64], table: &Table) -> Option<ClashFound>
 }
 
 /// The first clash of the grammar, or none; the words are 0 afterwards. Of a slice of another length it makes nothing.
-pub fn find_clash(work: &mut [u64], table: &Table, analysis: &Analysis) -> Option<ClashFound>
+pub fn find_clash(work: &mut [u64], grammar: &Prepared) -> Option<ClashFound>
     ensures untouched { (length work.old ≢ 36864) → (result ≡ None) × (work.new ≡ work.old) }
     ensures cleared { length work.old ≡ 36864 → work.new ≡ replicate 36864 0 }
-    ensures value { (g : Grammar) → Shows table.now g → Analysed g analysis.now → length work.old ≡ 36864 → Found result (clash_of g) }
-    ensures meaning { (g : Grammar) → Shows table.now g → Analysed g analysis.now → length work.old ≡ 36864 → AllUseful g → Tells g result }
+    ensures value { (g : Grammar) → Describes grammar.now g → length work.old ≡ 36864 → Found result (clash_of g) }
+    ensures meaning { (g : Grammar) → Describes grammar.now g → length work.old ≡ 36864 → AllUseful g → Tells g result }
 {
     if work.len() != WORDS {
         return None;
     }
-    saturate(work, table, analysis);
-    let clash = clash_among(work, table);
+    saturate(work, grammar);
+    let clash = clash_among(work, &grammar.table);
     zeroes(work);
     clash
 }

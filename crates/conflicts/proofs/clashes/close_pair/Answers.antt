@@ -8,16 +8,16 @@ use Rattle.conflicts.proofs.clashes.close_pair.Goals as goal
 
 pub returns : goal.returns
 returns c = record {
-  value = λ g s a hp hq.
+  value = λ g d hp hq.
       let v = c.at-here.ensures ∙ ap (λ k. get_or c.args.work.now k 0) c.pair.ensures in
       let u = c.at-there.ensures ∙ ap (λ k. get_or c.args.work.now k 0) c.pair-2.ensures in
-      let own = c.begun_own-own.ensures g a hp in
-      let both = c.begun_both-both.ensures.value g a hp in
-      let own-fits = subst (λ n. n < 2 ^ 25) (sym own) (begun_own_below g (first_known g s.fits) c.args.p c.at-here.result) in
+      let own = c.begun_own-own.ensures g d.analysed hp in
+      let both = c.begun_both-both.ensures.value g d.analysed hp in
+      let own-fits = subst (λ n. n < 2 ^ 25) (sym own) (begun_own_below g (first_known g d.shows.fits) c.args.p c.at-here.result) in
       let low_fits = subst (λ n. n < 2 ^ 25) (sym c.low.ensures) (mod_below c.at-there.result (2 ^ 25) (lit< tt)) in
       let here = c.word_of.ensures own-fits c.begun_both-both.ensures.fits in
       let there = c.word_of-2.ensures low_fits c.begun_both-both.ensures.fits ∙ ap (λ n. word_of n c.begun_both-both.result) c.low.ensures in
-      c.begin_rules.ensures.value g s hp
+      c.begin_rules.ensures.value g d.shows hp
       ∙ closes g c.args.p c.args.q c.args.work.now _ _ _ _ _ _ v u own both here there;
   grew = c.begin_rules.ensures.grew;
 }

@@ -19,7 +19,7 @@ pub returns : goal.returns
 returns c = record {
   untouched = λ other. absurd (other (omega arith));
   cleared = λ long. let n : length c.saturate.new.work ≡ 36864 = omega arith in c.zeroes.ensures ∙ ap (λ k. replicate k 0) n;
-  value = λ g s a long. found_among g _ _ (c.saturate.ensures g s a long) (c.clash_among-clash.ensures g s);
-  meaning = λ g s a long useful.
-      found_tells g s.fits useful _ (found_among g _ _ (c.saturate.ensures g s a long) (c.clash_among-clash.ensures g s));
+  value = λ g d long. found_among g _ _ (c.saturate.ensures g d long) (c.clash_among-clash.ensures g d.shows);
+  meaning = λ g d long useful.
+      found_tells g d.shows.fits useful _ (found_among g _ _ (c.saturate.ensures g d long) (c.clash_among-clash.ensures g d.shows));
 }

@@ -7,5 +7,5 @@ use Rattle.conflicts.proofs.clashes.pair_round.Given as goal
 
 abbrev pub invariant-place : goal.invariant-place
 invariant-place l =
-    Steps l.table l.analysis (λ g. counted l.p (λ p. counted (places g) (pair_step g p))) l.initial.work l.work
+    Steps l.grammar (λ g. counted l.p (λ p. counted (places g) (pair_step g p))) l.initial.work l.work
     × Grew size l.initial.work l.work l.changed

@@ -6,5 +6,5 @@ use Rattle.conflicts.proofs.clashes.pair_row.Given as goal
 
 abbrev pub invariant-other : goal.invariant-other
 invariant-other l =
-    StepsAt l.table l.analysis l.p l.p (λ g. counted l.q (pair_step g l.p)) l.initial.work l.work
+    StepsAt l.grammar l.p l.p (λ g. counted l.q (pair_step g l.p)) l.initial.work l.work
     × Grew size l.initial.work l.work l.changed

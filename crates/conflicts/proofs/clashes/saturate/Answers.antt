@@ -7,7 +7,7 @@ use Rattle.conflicts.specs.Pairs.{pair_round_lem, pairs}
 use Rattle.conflicts.proofs.clashes.saturate.Goals as goal
 
 pub round-init : goal.round-init
-round-init c g s a = reached_none (pair_round_lem g) size c.put.new.row
+round-init c g d = reached_none (pair_round_lem g) size c.put.new.row
 
 pub round-smaller : goal.round-smaller
 round-smaller c =
@@ -15,16 +15,16 @@ round-smaller c =
     omega (arith, size_below (length work) work (refl, λ i. (c.type_inv.work i).fits), c.pair_round.ensures.grew.more c.round-test.true)
 
 pub round-preserved : goal.round-preserved
-round-preserved c g s a =
-    reached_more (c.round.invariant g s a) c.pair_round.new.work (c.pair_round.ensures.value g s a) (c.pair_round.ensures.grew.more c.round-test.true)
+round-preserved c g d =
+    reached_more (c.round.invariant g d) c.pair_round.new.work (c.pair_round.ensures.value g d) (c.pair_round.ensures.grew.more c.round-test.true)
 
 pub returns : goal.returns
 unfolding pairs
-returns c g s a long =
+returns c g d long =
     let work = c.pair_round.new.work in
     let same = c.pair_round.ensures.grew.same c.round-test.false in
-    let rest = sym (c.pair_round.ensures.value g s a) ∙ same in
+    let rest = sym (c.pair_round.ensures.value g d) ∙ same in
     let fits : size c.round.work ≤ 2359296 =
     omega (arith, size_below (length work) work (refl, λ i. (c.type_inv.work i).fits), ap size same) in
     let start = c.put.ensures.value ∙ ap (λ row. or_at row 0 562949970198528) (c.zeroes.ensures ∙ ap (λ n. replicate n 0) long) in
-    same ∙ reached_rest (c.round.invariant g s a) rest 2359296 fits ∙ ap (iter 2359296 (pair_round_lem g)) start
+    same ∙ reached_rest (c.round.invariant g d) rest 2359296 fits ∙ ap (iter 2359296 (pair_round_lem g)) start
