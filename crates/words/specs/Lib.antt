@@ -3,4 +3,5 @@ pub mod Countdown
 pub mod Iter
 pub mod Packed
 pub mod Regions
+pub mod Rounds
 pub mod Rows

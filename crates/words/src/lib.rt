@@ -4,4 +4,5 @@
 pub mod bits;
 pub mod countdown;
 pub mod packed;
+pub mod rounds;
 pub mod rows;
