@@ -1,5 +1,6 @@
 -- The first place with an action: none so far, or found; and the action by what is found.
 use Rattle.std.proofs.Common.{◌≡◌, ℕ, ◌+◌, ◌<◌, Bool, true, false, List, [], ◌∷◌, Some, None, Option, sym, refl, ap, arith}
+use Rattle.std.specs.Bool.{then_some}
 use Rattle.words.specs.Iter.{counted}
 use Rattle.words.proofs.Fixpoint.{counted_then, counted_stays}
 use Rattle.grammar.specs.Grammar.{pick, none_of, Grammar}
@@ -7,7 +8,7 @@ use Rattle.grammar.specs.Places.{places, owner}
 use Rattle.grammar.proofs.Lists.{never}
 use Rattle.items.specs.Sets.{reduce_place, reduce_at, shift_place, shift_at}
 use Rattle.items.specs.Actions.{reduces_place, shifts_place, first_rule_lem, action_of}
-use Rattle.items.specs.declared.sets.Action.TheVariants.{Reduce}
+use Rattle.items.specs.declared.sets.Action.TheVariants.{Reduce, Shift}
 
 module _ (g : Grammar) (s : List ℕ) (t p : ℕ) where
   pub reduce_more : counted p (reduce_place g s t) [] ≡ [] → false ≡ reduces_place g s t p → counted (p + 1) (reduce_place g s t) [] ≡ []
@@ -35,12 +36,13 @@ module _ (g : Grammar) (s : List ℕ) (t p : ℕ) where
 
 -- ---- by what is found
 
-pub action_some : (r : ℕ) (rs : List ℕ) (b : Bool) → Some r ≡ first_rule_lem rs → Reduce r ≡ action_of rs b
+pub action_some : (r : ℕ) (rs : List ℕ) (b : Bool) → Some r ≡ first_rule_lem rs → Some (Reduce r) ≡ action_of rs b
 unfolding first_rule_lem action_of
 action_some r [] b e = never (cc)
-action_some r (q ∷ rs) b e = let i : r ≡ q = cc in ap Reduce i
+action_some r (q ∷ rs) b e = let i : r ≡ q = cc in ap (λ k. Some (Reduce k)) i
 
-pub action_none : (rs : List ℕ) (b : Bool) → ◌≡◌ {A = Option ℕ} None (first_rule_lem rs) → action_of [] b ≡ action_of rs b
+pub action_none : (rs : List ℕ) (b : Bool) → ◌≡◌ {A = Option ℕ} None (first_rule_lem rs) → then_some b Shift ≡ action_of rs b
 unfolding first_rule_lem action_of
-action_none [] b e = refl
+action_none [] true e = refl
+action_none [] false e = refl
 action_none (q ∷ rs) b e = never (cc)

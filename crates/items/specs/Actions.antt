@@ -5,7 +5,7 @@ use Rattle.grammar.specs.Grammar.{none_of, Grammar}
 use Rattle.grammar.specs.Places.{rest, next_code}
 use Rattle.items.specs.Sets.{reduce_at, shift_at}
 use Rattle.items.specs.declared.sets.Action.{Action}
-use Rattle.items.specs.declared.sets.Action.TheVariants.{Reduce, Shift, Stuck}
+use Rattle.items.specs.declared.sets.Action.TheVariants.{Reduce, Shift}
 
 -- at one place: it is complete and has the sign t ahead; it has the sign t next, and something ahead
 abbrev pub reduces_place : Grammar → List ℕ → ℕ → ℕ → Bool
@@ -20,10 +20,10 @@ first_rule_lem [] = None
 first_rule_lem (r ∷ rs) = Some r
 
 -- by the rules that may be reduced, and whether the sign may be shifted
-unfoldable pub action_of : List ℕ → Bool → Action
-action_of (r ∷ rs) b = Reduce r
-action_of [] true = Shift
-action_of [] false = Stuck
+unfoldable pub action_of : List ℕ → Bool → Option Action
+action_of (r ∷ rs) b = Some (Reduce r)
+action_of [] true = Some Shift
+action_of [] false = None
 
 -- whether there is an action before the sign t
 abbrev pub acts_at : Grammar → List ℕ → ℕ → Bool

@@ -1,13 +1,11 @@
 -- What a computed set says in the subject's words: it is the set of a stack, and has just the items that are valid behind it. Assumes nothing: these are definitions.
 use Rattle.std.specs.Prelude.{◌≡◌, ℕ, ◌<◌, true, ◌↔◌, List, [], ◌∷◌, slice_index}
 use Rattle.words.specs.Bits.{has_bit}
-use Rattle.grammar.specs.declared.analysis.Analysis.{Analysis}
-use Rattle.grammar.specs.declared.table.Table.{Table}
+use Rattle.grammar.specs.declared.prepared.Prepared.{Prepared}
 use Rattle.grammar.specs.Grammar.{every, Sym, Grammar, AllUseful}
 use Rattle.grammar.specs.Spelling.{sym_spelled}
 use Rattle.grammar.specs.Places.{places, owner, rest}
-use Rattle.grammar.specs.Table.{Shows}
-use Rattle.grammar.specs.Analysed.{Analysed}
+use Rattle.grammar.specs.Prepared.{Describes}
 use Rattle.items.specs.Items.{Valid}
 use Rattle.items.specs.Sets.{set_of, stackable}
 
@@ -16,9 +14,8 @@ pub record Behind (g : Grammar) (γ : List Sym) (s : List ℕ) : Type 0 where
   pub is_set : s ≡ set_of g γ
   pub exact : AllUseful g → every stackable γ ≡ true → (p t : ℕ) → p < places g → (has_bit t (slice_index s p) ≡ true) ↔ Valid g γ (owner g p) (rest g p) t
 
-abbrev pub Starts : Table → Analysis → List ℕ → Type 0
-Starts table a r = (g : Grammar) → Shows table g → Analysed g a → Behind g [] r
+abbrev pub Starts : Prepared → List ℕ → Type 0
+Starts p r = (g : Grammar) → Describes p g → Behind g [] r
 
-abbrev pub GoesTo : Table → Analysis → List ℕ → ℕ → List ℕ → Type 0
-GoesTo table a s code r =
-    (g : Grammar) → Shows table g → Analysed g a → (γ : List Sym) (x : Sym) → Behind g γ s → code ≡ sym_spelled x → Behind g (x ∷ γ) r
+abbrev pub GoesTo : Prepared → List ℕ → ℕ → List ℕ → Type 0
+GoesTo p s code r = (g : Grammar) → Describes p g → (γ : List Sym) (x : Sym) → Behind g γ s → code ≡ sym_spelled x → Behind g (x ∷ γ) r

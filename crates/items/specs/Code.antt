@@ -1,19 +1,13 @@
 -- What code computes of the grammar that its table shows. Assumes nothing: these are definitions.
 use Rattle.std.specs.Prelude.{◌≡◌, ℕ, ◌<◌, cond, nat_lt, slice_index}
-use Rattle.grammar.specs.declared.analysis.Analysis.{Analysis}
 use Rattle.grammar.specs.declared.table.Table.{Table}
 use Rattle.grammar.specs.Grammar.{Grammar}
 use Rattle.grammar.specs.Places.{places}
 use Rattle.grammar.specs.Table.{Shows}
-use Rattle.grammar.specs.Analysed.{Analysed}
 
 -- r is what f says of a place
 abbrev pub ComputedPlace : {A : Type 0} → Table → (Grammar → ℕ → A) → ℕ → A → Type 0
 ComputedPlace t f p r = (g : Grammar) → Shows t g → p < places g → r ≡ f g p
-
--- r is what f says of the grammar, if the analysis is of it too
-abbrev pub ComputedBy : {A : Type 0} → Table → Analysis → (Grammar → A) → A → Type 0
-ComputedBy t a f r = (g : Grammar) → Shows t g → Analysed g a → r ≡ f g
 
 -- the byte that the table has at a place; past its end, that of a complete one
 abbrev pub symbol_in : Table → ℕ → ℕ

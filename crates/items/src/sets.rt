@@ -8,12 +8,14 @@ ghost use Rattle.grammar.specs.Places.{places, rest};
 ghost use Rattle.grammar.specs.Rows.{begins_with};
 ghost use Rattle.grammar.specs.Table.{OfGrammar, Shows};
 ghost use Rattle.grammar.specs.Analysed.{Analysed};
-ghost use Rattle.items.specs.Code.{ComputedBy, ComputedPlace, symbol_in};
+ghost use Rattle.grammar.specs.Prepared.{Describes, OfPrepared};
+ghost use Rattle.items.specs.Code.{ComputedPlace, symbol_in};
 ghost use Rattle.items.specs.Behind.{GoesTo, Starts};
 ghost use Rattle.items.specs.Sets.{no_items, begin_rule, begun_ahead, close_place as close_place_of, close_round_lem as close_round_of, closure, advance_place_lem as advance_place_of, advanced_set, goto as goto_of, start_set, reduce_at, shift_at};
 ghost use Rattle.items.specs.Actions.{reduces_place, shifts_place, first_rule_lem, action_of, acts_at};
 
 use grammar::analysis::Analysis;
+use grammar::prepared::Prepared;
 use grammar::table::{COMPLETE, FIRST_NAME, Table};
 use words::bits::{bit, test};
 use words::rows::{at, put};
@@ -80,31 +82,31 @@ fn begin_rules(set: &mut [u64], table: &Table, place: usize, ahead: u64) -> bool
 }
 
 /// Begins the rules of a place, with what it has.
-fn close_place(set: &mut [u64], table: &Table, analysis: &Analysis, place: usize) -> bool
-    ensures value { (g : Grammar) → Shows table.now g → Analysed g analysis.now → place < places g → set.new ≡ close_place_of g place set.old }
+fn close_place(set: &mut [u64], grammar: &Prepared, place: usize) -> bool
+    ensures value { (g : Grammar) → Describes grammar.now g → place < places g → set.new ≡ close_place_of g place set.old }
     ensures grew { Grew size set.old set.new result }
 {
-    let ahead = ahead_of(analysis, place, at(set, place));
-    begin_rules(set, table, place, ahead)
+    let ahead = ahead_of(&grammar.analysis, place, at(set, place));
+    begin_rules(set, &grammar.table, place, ahead)
 }
 
 /// One round over the places; says whether it added a lookahead.
-fn close_round(set: &mut [u64], table: &Table, analysis: &Analysis) -> bool
-    ensures value { ComputedBy table.now analysis.now (λ g. close_round_of g set.old) set.new }
+fn close_round(set: &mut [u64], grammar: &Prepared) -> bool
+    ensures value { OfPrepared grammar.now (λ g. close_round_of g set.old) set.new }
     ensures grew { Grew size set.old set.new result }
 {
     let mut changed = false;
-    for place in 0..table.places {
-        changed |= close_place(set, table, analysis, place);
+    for place in 0..grammar.table.places {
+        changed |= close_place(set, grammar, place);
     }
     changed
 }
 
 /// Rounds until one adds nothing.
-pub fn close(set: &mut [u64], table: &Table, analysis: &Analysis)
-    ensures { (g : Grammar) → Shows table.now g → Analysed g analysis.now → length set.old ≡ 192 → set.new ≡ closure g set.old }
+pub fn close(set: &mut [u64], grammar: &Prepared)
+    ensures { (g : Grammar) → Describes grammar.now g → length set.old ≡ 192 → set.new ≡ closure g set.old }
 {
-    'round: while close_round(set, table, analysis) {}
+    'round: while close_round(set, grammar) {}
 }
 
 /// No items.
@@ -144,32 +146,31 @@ pub fn advance(set: &ItemSet, table: &Table, symbol: u8) -> ItemSet
 }
 
 /// The set one symbol on: of the set of a stack, the set of that stack with the symbol pushed.
-pub fn goto(set: &ItemSet, table: &Table, analysis: &Analysis, symbol: u8) -> ItemSet
-    ensures value { ComputedBy table.now analysis.now (λ g. goto_of g symbol set.now.words) result.words }
-    ensures meaning { GoesTo table.now analysis.now set.now.words symbol result.words }
+pub fn goto(set: &ItemSet, grammar: &Prepared, symbol: u8) -> ItemSet
+    ensures value { OfPrepared grammar.now (λ g. goto_of g symbol set.now.words) result.words }
+    ensures meaning { GoesTo grammar.now set.now.words symbol result.words }
 {
-    let mut next = advance(set, table, symbol);
-    close(&mut next.words, table, analysis);
+    let mut next = advance(set, &grammar.table, symbol);
+    close(&mut next.words, grammar);
     next
 }
 
 /// The set at the beginning, of the empty stack: the first rule, before the end.
-pub fn start(table: &Table, analysis: &Analysis) -> ItemSet
-    ensures value { ComputedBy table.now analysis.now start_set result.words }
-    ensures meaning { Starts table.now analysis.now result.words }
+pub fn start(grammar: &Prepared) -> ItemSet
+    ensures value { OfPrepared grammar.now start_set result.words }
+    ensures meaning { Starts grammar.now result.words }
 {
     let mut set = empty();
     put(&mut set.words, 0, bit(END as u64));
-    close(&mut set.words, table, analysis);
+    close(&mut set.words, grammar);
     set
 }
 
-/// What to do before a sign: a rule is reduced, or the sign is shifted, or neither is possible.
+/// What to do before a sign: a rule is reduced, or the sign is shifted.
 #[derive(Clone, Copy)]
 pub enum Action {
     Reduce(u8),
     Shift,
-    Stuck,
 }
 
 /// Whether a place is complete and has the sign ahead.
@@ -210,18 +211,14 @@ fn can_shift(set: &[u64], table: &Table, ahead: u8) -> bool
     false
 }
 
-/// The action before a sign.
-pub fn action_at(set: &ItemSet, table: &Table, ahead: u8) -> Action
+/// The action before a sign, if there is one.
+pub fn action_at(set: &ItemSet, table: &Table, ahead: u8) -> Option<Action>
     ensures { OfGrammar table.now (λ g. action_of (reduce_at g set.now.words ahead) (shift_at g set.now.words ahead)) result }
 {
     if let Some(rule) = reduction(&set.words, table, ahead) {
-        return Action::Reduce(rule);
+        return Some(Action::Reduce(rule));
     }
-    if can_shift(&set.words, table, ahead) {
-        Action::Shift
-    } else {
-        Action::Stuck
-    }
+    can_shift(&set.words, table, ahead).then_some(Action::Shift)
 }
 
 /// The signs before which a place has an action, a bit each.

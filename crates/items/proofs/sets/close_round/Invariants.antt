@@ -2,12 +2,11 @@ use Rattle.std.proofs.Common.{◌≡◌}
 use Rattle.words.specs.Iter.{Grew, counted}
 use Rattle.words.specs.Rows.{size}
 use Rattle.grammar.specs.Grammar.{Grammar}
-use Rattle.grammar.specs.Table.{Shows}
-use Rattle.grammar.specs.Analysed.{Analysed}
+use Rattle.grammar.specs.Prepared.{Describes}
 use Rattle.items.specs.Sets.{close_place}
 use Rattle.items.proofs.sets.close_round.Given as goal
 
 abbrev pub invariant-loop-place : goal.invariant-loop-place
 invariant-loop-place l =
-    ((g : Grammar) → Shows l.table g → Analysed g l.analysis → l.set ≡ counted l.place (close_place g) l.initial.set)
+    ((g : Grammar) → Describes l.grammar g → l.set ≡ counted l.place (close_place g) l.initial.set)
     × Grew size l.initial.set l.set l.changed

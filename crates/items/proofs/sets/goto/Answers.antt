@@ -8,6 +8,6 @@ unfolding goto
 returns c =
     let l : length c.advance-next.result.words ≡ 192 = search rules in
     record {
-      value = λ g s a. c.close.ensures g s a l ∙ ap (closure g) (c.advance-next.ensures g s);
-      meaning = λ g s a γ x b e. behind_goto g γ x _ _ _ s.fits (c.close.ensures g s a l ∙ ap (closure g) (c.advance-next.ensures g s)) b e;
+      value = λ g d. c.close.ensures g d l ∙ ap (closure g) (c.advance-next.ensures g d.shows);
+      meaning = λ g d γ x b e. behind_goto g γ x _ _ _ d.shows.fits (c.close.ensures g d l ∙ ap (closure g) (c.advance-next.ensures g d.shows)) b e;
     }

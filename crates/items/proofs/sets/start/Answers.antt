@@ -10,6 +10,6 @@ returns c =
     let l : length c.put.new.row ≡ 192 = search rules in
     let at_start = c.put.ensures.value ∙ ap₂ (λ z m. or_at z 0 m) c.empty-set.ensures c.bit.ensures in
     record {
-      value = λ g s a. c.close.ensures g s a l ∙ ap (closure g) at_start;
-      meaning = λ g s a. behind_start g _ s.fits (c.close.ensures g s a l ∙ ap (closure g) at_start);
+      value = λ g d. c.close.ensures g d l ∙ ap (closure g) at_start;
+      meaning = λ g d. behind_start g _ d.shows.fits (c.close.ensures g d l ∙ ap (closure g) at_start);
     }
