@@ -28,6 +28,7 @@ mod Filling
 pub mod Marks
 pub mod Shown
 pub mod Walks
+pub mod Slices
 pub mod RuleRows
 pub mod Behind
 pub mod Picks

@@ -37,7 +37,7 @@ byte_spelled b h =
           rw (le-ltb b 32 j) (omega arith, and_from _ _ (le-leb 1 (b - 32) (omega arith)) (lt-ltb (b - 32) 32 (omega arith)))
     ]
 
-syms_of_spelled : (ss : List Sym) → every sym_fits ss ≡ true → each sym_of (each sym_spelled ss) ≡ ss
+pub syms_of_spelled : (ss : List Sym) → every sym_fits ss ≡ true → each sym_of (each sym_spelled ss) ≡ ss
 unfolding every each
 syms_of_spelled [] h = refl
 syms_of_spelled (s ∷ ss) h =

@@ -1,6 +1,5 @@
 -- Which grammar a prepared one is of: its table shows it, and its analysis is of it. Assumes nothing: these are definitions.
 use Rattle.std.specs.Prelude.{◌≡◌}
-use Rattle.grammar.specs.declared.analysis.Analysis.{Analysis}
 use Rattle.grammar.specs.declared.prepared.Prepared.{Prepared}
 use Rattle.grammar.specs.declared.table.Table.{Table}
 use Rattle.grammar.specs.Grammar.{Grammar}

@@ -2,8 +2,8 @@
 use Rattle.std.specs.Prelude.{◌≡◌, ℕ, ◌+◌, ◌<◌, ◌≤◌, true, false, List, length, get_or, drop, Some, None, Option, slice_index, slice_index_or}
 use Rattle.grammar.specs.declared.table.Place.{Place}
 use Rattle.grammar.specs.declared.table.Table.{Table}
-use Rattle.grammar.specs.Grammar.{Sym, Grammar, rule, a_grammar}
-use Rattle.grammar.specs.Spelling.{grammar_of, Spells}
+use Rattle.grammar.specs.Grammar.{each, Sym, Grammar, rule, a_grammar}
+use Rattle.grammar.specs.Spelling.{sym_spelled, grammar_of, Spells}
 use Rattle.grammar.specs.Places.{places as places_of, rest, owner, first_place_lem, next_code}
 
 -- the rules are these, and nothing is said past them
@@ -39,6 +39,10 @@ NumberOf t m p = (g : Grammar) → Shows t g → m.rule < length g → m.dot ≤
 -- r is what f says of the row that comes at the place
 abbrev pub ReadOff : {A : Type 0} → Table → (List Sym → A) → ℕ → A → Type 0
 ReadOff t f p r = (g : Grammar) → Shows t g → p < places_of g → r ≡ f (rest g p)
+
+-- the bytes are those of the row that comes at the place
+abbrev pub RowAt : Table → ℕ → List ℕ → Type 0
+RowAt t p bs = ReadOff t (each sym_spelled) p bs
 
 -- r is what f says of the grammar; and of one of its rules
 abbrev pub OfGrammar : {A : Type 0} → Table → (Grammar → A) → A → Type 0

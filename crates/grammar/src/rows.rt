@@ -4,7 +4,7 @@ ghost use Rattle.words.specs.Bits.{bit_of, has_bit};
 ghost use Rattle.grammar.specs.Rows.{named, opening, producing, vanishing};
 ghost use Rattle.grammar.specs.Table.{ReadOff};
 
-use crate::table::{COMPLETE, FIRST_NAME, Table};
+use crate::table::{FIRST_NAME, Table};
 use words::bits;
 use words::rows::at;
 
@@ -19,16 +19,7 @@ fn can_vanish(code: u8, nullable: u64) -> bool
 pub fn row_vanishes(table: &Table, from: usize, nullable: u64) -> bool
     ensures { ReadOff table.now (vanishing nullable) from result }
 {
-    for place in from..table.symbols.len() {
-        let code = table.symbols[place];
-        if code >= COMPLETE {
-            return true;
-        }
-        if !can_vanish(code, nullable) {
-            return false;
-        }
-    }
-    false
+    table.row_at(from).iter().all(|code| can_vanish(*code, nullable))
 }
 
 /// Whether a symbol comes to signs, if these names do.
@@ -42,33 +33,22 @@ fn comes_to_signs(code: u8, productive: u64) -> bool
 pub fn row_produces(table: &Table, from: usize, productive: u64) -> bool
     ensures { ReadOff table.now (producing productive) from result }
 {
-    for place in from..table.symbols.len() {
-        let code = table.symbols[place];
-        if code >= COMPLETE {
-            return true;
-        }
-        if !comes_to_signs(code, productive) {
-            return false;
-        }
-    }
-    false
+    table.row_at(from).iter().all(|code| comes_to_signs(*code, productive))
 }
 
 /// The signs that the row that comes at a place can begin with, if these names can vanish and each name can begin with these signs.
 pub fn row_opening(table: &Table, from: usize, nullable: u64, firsts: &[u64]) -> u64
     ensures { ReadOff table.now (opening nullable firsts.now) from result }
 {
+    let row = table.row_at(from);
     let mut signs = 0;
-    for place in from..table.symbols.len() {
-        let code = table.symbols[place];
-        if code >= COMPLETE {
-            return signs;
+    for code in row {
+        if *code < FIRST_NAME {
+            return bits::with(signs, *code as u64);
         }
-        if code < FIRST_NAME {
-            return bits::with(signs, code as u64);
-        }
-        signs |= at(firsts, (code - FIRST_NAME) as usize);
-        if !bits::test(nullable, (code - FIRST_NAME) as u64) {
+        let name = *code - FIRST_NAME;
+        signs |= at(firsts, name as usize);
+        if !bits::test(nullable, name as u64) {
             return signs;
         }
     }
@@ -90,13 +70,5 @@ fn name_mark(code: u8) -> u64
 pub fn row_names(table: &Table, from: usize) -> u64
     ensures { ReadOff table.now named from result }
 {
-    let mut names = 0;
-    for place in from..table.symbols.len() {
-        let code = table.symbols[place];
-        if code >= COMPLETE {
-            return names;
-        }
-        names |= name_mark(code);
-    }
-    names
+    table.row_at(from).iter().fold(0, |names, code| names | name_mark(*code))
 }

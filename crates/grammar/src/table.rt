@@ -1,6 +1,7 @@
 // A grammar as a table: what comes next at each of its places, and which rule the place is in.
 ghost use Rattle.std.specs.Prelude.{◌≡◌, ◌+◌, ◌<◌, [], length, if◌then◌else◌, nat_lt, slice_index};
-ghost use Rattle.grammar.specs.Table.{Added, Answers, Holds, NumberOf, PlaceOf};
+ghost use Rattle.std.specs.List.{prefix_len};
+ghost use Rattle.grammar.specs.Table.{Added, Answers, Holds, NumberOf, PlaceOf, RowAt};
 
 use crate::spelling::is_grammar;
 
@@ -32,6 +33,13 @@ pub struct Table {
 pub struct Place {
     pub rule: u8,
     pub dot: u8,
+}
+
+/// How many codes of symbols come first.
+fn symbol_count(codes: &[u8]) -> usize
+    ensures { result ≡ prefix_len (λ c. nat_lt c 64) codes.now }
+{
+    codes.iter().take_while(|code| **code < COMPLETE).count()
 }
 
 impl Table {
@@ -77,6 +85,14 @@ impl Table {
         } else {
             0
         }
+    }
+
+    /// The symbols of the row that comes at a place.
+    pub fn row_at(&self, from: usize) -> &[u8]
+        ensures { RowAt self.now from result.now }
+    {
+        let behind = &self.symbols[from.min(self.symbols.len())..];
+        &behind[..symbol_count(behind)]
     }
 
     /// The rule of a place, and how much of it is done there.

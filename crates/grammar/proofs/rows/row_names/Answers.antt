@@ -1,20 +1,15 @@
-use Rattle.std.proofs.Common.{sym, ap, ◌∙◌, arith}
-use lib.Bits.{bit_or, or_zero_l, or_zero_r}
+use Rattle.std.proofs.Common.{◌-◌, cond, leb, ◌∙◌, rules}
+use lib.Bits.{bit_or, or_zero_l}
+use Rattle.std.proofs.lemmas.Iterator.{YieldsList-from_slice}
+use Rattle.std.proofs.lemmas.Iterator.Consumers.{fold_from_yields_List}
+use Rattle.words.specs.Bits.{bit_of}
 use Rattle.grammar.specs.Rows.{named}
-use Rattle.grammar.proofs.Walks.{walked_none, walked_more, walked_complete, walked_past, named_code}
+use Rattle.grammar.proofs.Walks.{named_codes, read_codes}
 use Rattle.grammar.proofs.rows.row_names.Goals as goal
 
-pub loop-place-init : goal.loop-place-init
-loop-place-init c = walked_none named _ _ (λ β. or_zero_l _)
-
-pub returns-then-code-ge-COMPLETE : goal.returns-then-code-ge-COMPLETE
-unfolding named
-returns-then-code-ge-COMPLETE c = walked_complete c.loop-place.invariant _ (omega arith) (sym (or_zero_r _))
-
-pub loop-place-preserved : goal.loop-place-preserved
-loop-place-preserved c =
-    walked_more c.loop-place.invariant _ (omega arith)
-    (λ β. ap (λ m. bit_or (bit_or c.loop-place.names m) (named β)) c.name_mark-names.ensures ∙ sym (named_code c.loop-place.names _ β))
-
 pub returns : goal.returns
-returns c = walked_past c.loop-place.invariant _ (omega arith)
+returns c =
+    let row = c.row_at.result.now in
+    let all = fold_from_yields_List _ (λ a b. bit_or a (cond (leb 32 b) (bit_of (b - 32)) 0)) 0 c.fold.result c.fold.ensures.ran
+    (YieldsList-from_slice row cc) (λ a x b q k. search rules) in
+    read_codes named c.args.from row c.row_at.ensures c.fold.result (all ∙ named_codes 0 row ∙ or_zero_l _)

@@ -1,24 +1,14 @@
-use Rattle.std.proofs.Common.{◌&&◌, sym, refl, ap, ◌∙◌, arith}
+use Rattle.std.proofs.Common.{◌-◌, ◌||◌, ltb, ◌∙◌, rules}
+use Rattle.std.proofs.lemmas.Iterator.{YieldsList-from_slice}
+use Rattle.std.proofs.lemmas.Iterator.Search.{all_from_yields_List}
+use Rattle.words.specs.Bits.{has_bit}
 use Rattle.grammar.specs.Rows.{producing}
-use Rattle.grammar.proofs.Walks.{walked_none, walked_more, walked_stop, walked_complete, walked_past, producing_code}
+use Rattle.grammar.proofs.Walks.{producing_codes, read_codes}
 use Rattle.grammar.proofs.rows.row_produces.Goals as goal
 
-pub loop-place-init : goal.loop-place-init
-loop-place-init c = walked_none (producing c.args.productive) _ _ (λ β. refl)
-
-pub returns-then-code-ge-COMPLETE : goal.returns-then-code-ge-COMPLETE
-unfolding producing
-returns-then-code-ge-COMPLETE c = walked_complete c.loop-place.invariant _ (omega arith) refl
-
-pub returns-then-not-comes_to_signs : goal.returns-then-not-comes_to_signs
-returns-then-not-comes_to_signs c =
-    walked_stop c.loop-place.invariant _ (omega arith)
-    (λ β. sym (producing_code c.args.productive _ β ∙ ap (λ b. b && producing c.args.productive β) (sym c.if-not-comes_to_signs.ensures)))
-
-pub loop-place-preserved : goal.loop-place-preserved
-loop-place-preserved c =
-    walked_more c.loop-place.invariant _ (omega arith)
-    (λ β. sym (producing_code c.args.productive _ β ∙ ap (λ b. b && producing c.args.productive β) (sym c.if-not-comes_to_signs.ensures)))
-
 pub returns : goal.returns
-returns c = walked_past c.loop-place.invariant _ (omega arith)
+returns c =
+    let row = c.row_at.result.now in
+    let all = all_from_yields_List (λ b. ltb b 32 || has_bit (b - 32) c.args.productive) _ _ c.all.result c.all.ensures.ran
+    (YieldsList-from_slice row cc) (λ x b q k. search rules) in
+    read_codes (producing c.args.productive) c.args.from row c.row_at.ensures c.all.result (all ∙ producing_codes c.args.productive row)

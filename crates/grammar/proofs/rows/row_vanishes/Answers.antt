@@ -1,24 +1,14 @@
-use Rattle.std.proofs.Common.{◌&&◌, sym, refl, ap, ◌∙◌, arith}
+use Rattle.std.proofs.Common.{◌-◌, ◌&&◌, leb, ◌∙◌, rules}
+use Rattle.std.proofs.lemmas.Iterator.{YieldsList-from_slice}
+use Rattle.std.proofs.lemmas.Iterator.Search.{all_from_yields_List}
+use Rattle.words.specs.Bits.{has_bit}
 use Rattle.grammar.specs.Rows.{vanishing}
-use Rattle.grammar.proofs.Walks.{walked_none, walked_more, walked_stop, walked_complete, walked_past, vanishing_code}
+use Rattle.grammar.proofs.Walks.{vanishing_codes, read_codes}
 use Rattle.grammar.proofs.rows.row_vanishes.Goals as goal
 
-pub loop-place-init : goal.loop-place-init
-loop-place-init c = walked_none (vanishing c.args.nullable) _ _ (λ β. refl)
-
-pub returns-then-code-ge-COMPLETE : goal.returns-then-code-ge-COMPLETE
-unfolding vanishing
-returns-then-code-ge-COMPLETE c = walked_complete c.loop-place.invariant _ (omega arith) refl
-
-pub returns-then-not-can_vanish : goal.returns-then-not-can_vanish
-returns-then-not-can_vanish c =
-    walked_stop c.loop-place.invariant _ (omega arith)
-    (λ β. sym (vanishing_code c.args.nullable _ β ∙ ap (λ b. b && vanishing c.args.nullable β) (sym c.if-not-can_vanish.ensures)))
-
-pub loop-place-preserved : goal.loop-place-preserved
-loop-place-preserved c =
-    walked_more c.loop-place.invariant _ (omega arith)
-    (λ β. sym (vanishing_code c.args.nullable _ β ∙ ap (λ b. b && vanishing c.args.nullable β) (sym c.if-not-can_vanish.ensures)))
-
 pub returns : goal.returns
-returns c = walked_past c.loop-place.invariant _ (omega arith)
+returns c =
+    let row = c.row_at.result.now in
+    let all = all_from_yields_List (λ b. leb 32 b && has_bit (b - 32) c.args.nullable) _ _ c.all.result c.all.ensures.ran
+    (YieldsList-from_slice row cc) (λ x b q k. search rules) in
+    read_codes (vanishing c.args.nullable) c.args.from row c.row_at.ensures c.all.result (all ∙ vanishing_codes c.args.nullable row)
