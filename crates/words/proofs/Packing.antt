@@ -1,11 +1,11 @@
 -- Bytes read off words, packed again, are those words; and the bytes of words that are 0.
 use Rattle.std.proofs.Common.{◌≡◌, ℕ, zero, suc, ◌+◌, ◌*◌, ◌/◌, ◌%◌, ◌^◌, ◌<◌, List, length, get_or, replicate, sym, refl, ap, ◌∙◌, ap₂, mod-eq_of_lt, div-add-mod', arith, lit<}
-use native.Mathlib.Nat.{div-eq_of_lt, zero-mod}
 use lib.Pow.{mod-mod-pow}
-use Rattle.std.proofs.lemmas.Nat.{field_of, mod_below, pow_pos, shr_split}
+use Rattle.std.proofs.lemmas.Nat.{field_of, mod_below, shr_split}
 use Rattle.std.proofs.lemmas.List.FromFn.{length-map-range_with_len, get_or-map-range_with_len}
 use Rattle.std.proofs.lemmas.List.{ext_get_or, get_or-replicate, length-replicate}
 use Rattle.words.specs.Packed.{byte, byte_at, unpacked, joined, word_at, packed}
+use Rattle.words.proofs.BytesOfWord.{byte_of_zero}
 use Rattle.words.proofs.PackedLaws.{length_unpacked, unpacked_at}
 
 joined_same : (n : ℕ) (f h : ℕ → ℕ) → ((j : ℕ) → j < n → f j ≡ h j) → joined n f ≡ joined n h
@@ -47,10 +47,6 @@ packed_unpacked m fits =
 -- words are known by their bytes
 pub unpacked_once : (m n : List ℕ) → ((i : ℕ) → get_or m i 0 < 2 ^ 64) → ((i : ℕ) → get_or n i 0 < 2 ^ 64) → unpacked m ≡ unpacked n → m ≡ n
 unpacked_once m n hm hn e = sym (packed_unpacked m hm) ∙ ap packed e ∙ packed_unpacked n hn
-
-byte_of_zero : (j : ℕ) → byte 0 j ≡ 0
-unfolding byte
-byte_of_zero j = ap (λ q. q % 256) (div-eq_of_lt (pow_pos (8 * j))) ∙ zero-mod 256
 
 byte_of_zeroes : (n i : ℕ) → i < 8 * n → byte_at (replicate n 0) i ≡ 0
 unfolding byte_at

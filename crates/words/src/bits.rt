@@ -27,7 +27,7 @@ pub fn with(word: u64, n: u64) -> u64
 pub fn without(word: u64, mask: u64) -> u64
     ensures { result ≡ without_bits word mask }
 {
-    word ^ (word & mask)
+    word & !mask
 }
 
 /// The mask of the `count` lowest bits; of all 64 past 63.

@@ -1,6 +1,6 @@
 // A countdown: a number held in words, the lowest first.
 ghost use Rattle.std.specs.Prelude.{◌≡◌, ◌-◌, ◌*◌, ◌^◌, length};
-ghost use Rattle.words.specs.Countdown.{Ticked, value};
+ghost use Rattle.words.specs.Countdown.{IsLowest, Ticked, value};
 
 /// Sets the number to the largest that the words can hold.
 pub fn fill(fuel: &mut [u64])
@@ -9,18 +9,22 @@ pub fn fill(fuel: &mut [u64])
     fuel.fill(u64::MAX);
 }
 
+/// The place of the lowest word that is not 0.
+fn lowest(fuel: &[u64]) -> Option<usize>
+    ensures { IsLowest fuel.now result }
+{
+    fuel.iter().position(|word| *word != 0)
+}
+
 /// Takes one from the number, and says whether there was one to take.
 pub fn tick(fuel: &mut [u64]) -> bool
     ensures { Ticked fuel.old fuel.new result }
 {
-    for i in 0..fuel.len() {
-        if fuel[i] != 0 {
-            fuel[i] -= 1;
-            return true;
-        }
-        fuel[i] = u64::MAX;
-    }
-    // every word was 0, and has borrowed from the next
-    fuel.fill(0);
-    false
+    let Some(place) = lowest(fuel) else {
+        return false;
+    };
+    fuel[place] -= 1;
+    // the words below are 0, and borrow
+    fuel[..place].fill(u64::MAX);
+    true
 }

@@ -2,29 +2,27 @@
 ghost use Rattle.std.specs.Prelude.{◌≡◌, ◌*◌, length, nat_lt, slice_index, slice_set};
 ghost use Rattle.words.specs.Packed.{stacked, unpacked};
 
+use crate::rows::at;
+
 const BYTES: usize = 8;
 
 /// The byte at `i`; 0 past the end.
 pub fn read(words: &[u64], i: usize) -> u8
     ensures { result ≡ slice_index (unpacked words.now) i }
 {
-    if i / BYTES >= words.len() {
-        return 0;
-    }
-    ((words[i / BYTES] >> (8 * (i % BYTES))) & 255) as u8
+    at(words, i / BYTES).to_le_bytes()[i % BYTES]
 }
 
 /// Puts the byte at `i`; past the end it does nothing.
 pub fn write(words: &mut [u64], i: usize, byte: u8)
     ensures { unpacked words.new ≡ slice_set (unpacked words.old) i byte }
 {
-    if i / BYTES >= words.len() {
-        return;
+    let place = i / BYTES;
+    if place < words.len() {
+        let mut bytes = words[place].to_le_bytes();
+        bytes[i % BYTES] = byte;
+        words[place] = u64::from_le_bytes(bytes);
     }
-    let shift = 8 * (i % BYTES);
-    let word = words[i / BYTES];
-    let old = (word >> shift) & 255;
-    words[i / BYTES] = word - (old << shift) + ((byte as u64) << shift);
 }
 
 /// Pushes the byte on the stack of this height, and says whether there was room.

@@ -1,5 +1,5 @@
 // Rows of words.
-ghost use Rattle.std.specs.Prelude.{◌≡◌, length, replicate, slice_index};
+ghost use Rattle.std.specs.Prelude.{◌≡◌, length, replicate, slice_index, slice_index_or};
 ghost use Rattle.words.specs.Iter.{Grew};
 ghost use Rattle.words.specs.Rows.{or_at, size};
 
@@ -8,10 +8,9 @@ pub fn put(row: &mut [u64], place: usize, mask: u64) -> bool
     ensures value { row.new ≡ or_at row.old place mask }
     ensures grew { Grew size row.old row.new result }
 {
-    if place >= row.len() {
+    let Some(&old) = row.get(place) else {
         return false;
-    }
-    let old = row[place];
+    };
     let new = old | mask;
     row[place] = new;
     old != new
@@ -24,9 +23,16 @@ pub fn zeroes(words: &mut [u64])
     words.fill(0);
 }
 
+/// What stands at a place of the row; the other value past its end.
+pub fn at_or<T: Copy>(row: &[T], place: usize, other: T) -> T
+    ensures { result ≡ slice_index_or row.now place other }
+{
+    row.get(place).copied().unwrap_or(other)
+}
+
 /// The word at a place of the row; 0 past its end.
 pub fn at(row: &[u64], place: usize) -> u64
     ensures { result ≡ slice_index row.now place }
 {
-    if place < row.len() { row[place] } else { 0 }
+    at_or(row, place, 0)
 }

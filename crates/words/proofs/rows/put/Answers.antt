@@ -1,12 +1,14 @@
-use Rattle.std.proofs.Common.{sym, refl, arith}
-use Rattle.std.proofs.lemmas.List.{set_past}
+use Rattle.std.proofs.Common.{◌≡◌, ◌<◌, not, eqb, length, get_or, set, bit_or, sym, subst, rules}
+use Rattle.words.specs.Iter.{Grew}
 use Rattle.words.specs.Rows.{size}
-use Rattle.words.proofs.Fixpoint.{grew_none}
 use Rattle.words.proofs.RowLaws.{grew_or_at}
 use Rattle.words.proofs.rows.put.Goals as goal
 
-pub returns-then-place-row : goal.returns-then-place-row
-returns-then-place-row c = record { value = sym (set_past _ _ _ c.if-place-row.true); grew = grew_none size _ }
-
-pub returns : goal.returns
-returns c = record { value = refl; grew = grew_or_at c.args.row.now c.args.place c.args.mask (omega arith) }
+pub returns-clause-grew : goal.returns-clause-grew
+returns-clause-grew c =
+    let row = c.args.row.now in
+    let q = c.args.place in
+    let m = c.args.mask in
+    let word : c.in-Some.field-0.now ≡ get_or row q 0 = search rules in
+    let within : q < length row = search rules in
+    subst (λ w. Grew size row (set row q (bit_or w m)) (not (eqb w (bit_or w m)))) (sym word) (grew_or_at row q m within)
