@@ -1,5 +1,6 @@
 // Bytes packed eight to a word.
 ghost use Rattle.std.specs.Prelude.{◌≡◌, ◌*◌, length, nat_lt, slice_index, slice_set};
+ghost use Rattle.std.specs.Result.{is_ok};
 ghost use Rattle.words.specs.Packed.{stacked, unpacked};
 
 use crate::rows::at;
@@ -25,14 +26,20 @@ pub fn write(words: &mut [u64], i: usize, byte: u8)
     }
 }
 
-/// Pushes the byte on the stack of this height, and says whether there was room.
-pub fn push(words: &mut [u64], height: usize, byte: u8) -> bool
-    ensures room { result ≡ nat_lt height (length (unpacked words.old)) }
+/// The stack has no room for one more byte.
+#[derive(Clone, Copy, Debug, PartialEq, Eq)]
+pub struct Full;
+
+/// Pushes the byte on the stack of this height, if there is room.
+pub fn push(words: &mut [u64], height: usize, byte: u8) -> Result<(), Full>
+    ensures room { is_ok result ≡ nat_lt height (length (unpacked words.old)) }
     ensures value { unpacked words.new ≡ slice_set (unpacked words.old) height byte }
 {
-    let room = height / BYTES < words.len();
+    if height / BYTES >= words.len() {
+        return Err(Full);
+    }
     write(words, height, byte);
-    room
+    Ok(())
 }
 
 /// The top of the stack of this height; 0 if there is none.
