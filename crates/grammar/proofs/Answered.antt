@@ -1,5 +1,6 @@
 -- What the analyses answer, in the subject's words: FIRST and nullable behind each place, and whether a name is of use.
 use Rattle.std.proofs.Common.{◌≡◌, ℕ, ◌<◌, ◌≤◌, Bool, true, false, List, [], drop, Some, None, Option, sym, ap, ◌∙◌, ap₂, arith}
+use Rattle.std.specs.Prelude.{slice_index_or}
 use Rattle.grammar.specs.declared.analysis.Analysis.{Analysis}
 use Rattle.grammar.specs.declared.table.Table.{Table}
 use Rattle.grammar.specs.Grammar.{Grammar, a_grammar}
@@ -7,22 +8,20 @@ use Rattle.grammar.specs.Places.{places, rest}
 use Rattle.grammar.specs.Rows.{vanishing, opening}
 use Rattle.grammar.specs.Table.{Shows, ReadOff}
 use Rattle.grammar.specs.Analysis.{nullable, firsts, behind, passes, useless}
-use Rattle.grammar.specs.Analysed.{Analysed, ExactBehind, listed, Judged}
+use Rattle.grammar.specs.Analysed.{Analysed, ExactBehind, listed, Judged, no_behind, IsBehind}
 use Rattle.grammar.proofs.Places.{places_bound}
-use Rattle.grammar.proofs.Behind.{Filled}
 use Rattle.grammar.proofs.FirstKnown.{first_known}
 use Rattle.grammar.proofs.Useless.{useless_none, useless_some}
 
--- two rows filled with what is read off at each place
-pub filled_analysed : {t : Table} {g : Grammar} {N n : ℕ} {F masks : List ℕ} {flags : List Bool} → Shows t g → N ≡ nullable g → F ≡ firsts g →
-    Filled (ReadOff t (λ β. opening N F (drop 1 β))) 0 192 masks n → Filled (ReadOff t (λ β. vanishing N (drop 1 β))) false 192 flags n → 192 ≤ n →
-    Analysed g (record { behind = masks; passes = flags })
+-- what is known of each place makes an analysis
+pub analysed_each : {t : Table} {g : Grammar} {N : ℕ} {F : List ℕ} (a : Analysis) → Shows t g → N ≡ nullable g → F ≡ firsts g →
+    ((p : ℕ) → p < 192 → IsBehind t N F p (slice_index_or a.places p no_behind)) → Analysed g a
 unfolding behind passes
-filled_analysed {g = g} {n = n} s e q f h l =
-    let within : (p : ℕ) → p < places g → p < n = λ p k. omega (arith, places_bound g s.fits) in
+analysed_each {g = g} a s e q f =
+    let within : (p : ℕ) → p < places g → p < 192 = λ p k. omega (arith, places_bound g s.fits) in
     record {
-      behind = λ p k. f.good p (within p k) g s k ∙ ap₂ (λ N F. opening N F (drop 1 (rest g p))) e q;
-      passes = λ p k. h.good p (within p k) g s k ∙ ap (λ N. vanishing N (drop 1 (rest g p))) e;
+      behind = λ p k. (f p (within p k)).signs g s k ∙ ap₂ (λ N F. opening N F (drop 1 (rest g p))) e q;
+      passes = λ p k. (f p (within p k)).vanishes g s k ∙ ap (λ N. vanishing N (drop 1 (rest g p))) e;
     }
 
 pub exact_behind : {g : Grammar} {a : Analysis} → a_grammar g ≡ true → Analysed g a → ExactBehind g a

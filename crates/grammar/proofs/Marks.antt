@@ -4,14 +4,14 @@ use Rattle.grammar.specs.declared.table.Place.{Place}
 use Rattle.grammar.specs.declared.table.Table.{Table}
 use Rattle.grammar.specs.Grammar.{Grammar, rule}
 use Rattle.grammar.specs.Places.{places, rest, owner, first_place_lem, At}
-use Rattle.grammar.specs.Table.{Shows, Marks}
+use Rattle.grammar.specs.Table.{Shows, Marks, owner_in, first_in}
 use Rattle.grammar.proofs.Places.{place_of, place_parts}
 
 module _ {t : Table} {g : Grammar} (s : Shows t g) (p : ℕ) (h : p < places g) where
-  owner_first : get_or t.firsts (get_or t.owners p 0) 0 ≡ first_place_lem g (owner g p)
-  owner_first = ap (λ k. get_or t.firsts k 0) (s.holds.owners p h) ∙ s.holds.firsts (owner g p) (place_parts g p h).owner_within
+  owner_first : first_in t (owner_in t p) ≡ first_place_lem g (owner g p)
+  owner_first = ap (first_in t) (s.holds.owners p h) ∙ s.holds.firsts (owner g p) (place_parts g p h).owner_within
 
-  pub marks_place : (r d : ℕ) → r ≡ get_or t.owners p 0 → d ≡ p - get_or t.firsts (get_or t.owners p 0) 0 → Marks g p (record { rule = r; dot = d })
+  pub marks_place : (r d : ℕ) → r ≡ owner_in t p → d ≡ p - first_in t (owner_in t p) → Marks g p (record { rule = r; dot = d })
   marks_place r d er ed =
       let parts = place_parts g p h in
       let o : r ≡ owner g p = er ∙ s.holds.owners p h in
@@ -25,7 +25,7 @@ module _ {t : Table} {g : Grammar} (s : Shows t g) (p : ℕ) (h : p < places g) 
         coming = ap (drop d) w ∙ drop_at parts.done (rest g p) d (sym n);
       }
 
-pub marks_number : {t : Table} {g : Grammar} → Shows t g → (m : Place) (p : ℕ) → p ≡ get_or t.firsts m.rule 0 + m.dot → m.rule < length g →
+pub marks_number : {t : Table} {g : Grammar} → Shows t g → (m : Place) (p : ℕ) → p ≡ first_in t m.rule + m.dot → m.rule < length g →
     m.dot ≤ length (rule g m.rule).right → Marks g p m
 marks_number {t} {g} s m p e h k =
     let row = (rule g m.rule).right in

@@ -7,13 +7,13 @@ use Rattle.words.proofs.RowLaws.{or_grows}
 use Rattle.grammar.specs.declared.table.Table.{Table}
 use Rattle.grammar.specs.Grammar.{pick, Sym, Grammar, rule}
 use Rattle.grammar.specs.Places.{places, rest}
-use Rattle.grammar.specs.Table.{Shows, ReadOff}
+use Rattle.grammar.specs.Table.{Shows, ReadOff, first_in}
 use Rattle.grammar.proofs.Picks.{up_pick}
 use Rattle.grammar.proofs.Places.{place_first}
 
 -- what is read off at a rule's first place is read off its row
 pub rule_read : {A : Type 0} {t : Table} {g : Grammar} (f : List Sym → A) {p : ℕ} {r : A} → ReadOff t f p r → Shows t g →
-    (k : ℕ) → p ≡ get_or t.firsts k 0 → k < length g → r ≡ f (rule g k).right
+    (k : ℕ) → p ≡ first_in t k → k < length g → r ≡ f (rule g k).right
 rule_read {g = g} f {p} read s k e h =
     let a = place_first g k h in
     let q = e ∙ s.holds.firsts k h in

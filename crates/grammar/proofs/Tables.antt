@@ -5,7 +5,7 @@ use Rattle.grammar.specs.declared.table.Table.{Table}
 use Rattle.grammar.specs.Grammar.{each, Rule, Grammar, rule}
 use Rattle.grammar.specs.Spelling.{sym_spelled}
 use Rattle.grammar.specs.Places.{places, rest, owner, first_place_lem, next_code}
-use Rattle.grammar.specs.Table.{Holds, Added}
+use Rattle.grammar.specs.Table.{Holds, Added, code_in, owner_in, first_in, left_in}
 use Rattle.grammar.proofs.Spelled.{length_each}
 use Rattle.grammar.proofs.Places.{rest_here, owner_here}
 use Rattle.grammar.proofs.Pushed.{places_append, rest_before, owner_before, first_before, rule_before, rest_behind, owner_behind, first_behind, rule_behind, code_at}
@@ -26,7 +26,7 @@ module _ {t u : Table} {g : Grammar} (r : Rule) (h : Holds t g) (a : Added t r.l
       let s = length-append g (r ∷ []) in
       elim (cases_lt k (length g)) [ inl j ↦ inl j | inr j ↦ inr (omega arith) ]
 
-  symbols_pushed : (p : ℕ) → p < places (g ++ r ∷ []) → get_or u.symbols p 0 ≡ next_code (rest (g ++ r ∷ []) p)
+  symbols_pushed : (p : ℕ) → p < places (g ++ r ∷ []) → code_in u p ≡ next_code (rest (g ++ r ∷ []) p)
   symbols_pushed p k =
       elim (old_or_new p k) [
         | inl l ↦
@@ -35,11 +35,11 @@ module _ {t u : Table} {g : Grammar} (r : Rule) (h : Holds t g) (a : Added t r.l
         | inr (d, l, e) ↦
             let n : d ≤ length (each sym_spelled r.right) = omega (arith, length_each sym_spelled r.right) in
             let q : p ≡ t.places + d = omega (arith, h.places) in
-            ap (λ j. get_or u.symbols j 0) q ∙ a.symbols_new d n ∙ sym (code_at d r.right)
+            ap (code_in u) q ∙ a.symbols_new d n ∙ sym (code_at d r.right)
             ∙ sym (ap next_code (ap (rest (g ++ r ∷ [])) e ∙ rest_behind g (r ∷ []) d ∙ rest_here r [] d l))
       ]
 
-  owners_pushed : (p : ℕ) → p < places (g ++ r ∷ []) → get_or u.owners p 0 ≡ owner (g ++ r ∷ []) p
+  owners_pushed : (p : ℕ) → p < places (g ++ r ∷ []) → owner_in u p ≡ owner (g ++ r ∷ []) p
   owners_pushed p k =
       elim (old_or_new p k) [
         | inl l ↦
@@ -49,25 +49,25 @@ module _ {t u : Table} {g : Grammar} (r : Rule) (h : Holds t g) (a : Added t r.l
             let n : d ≤ length (each sym_spelled r.right) = omega (arith, length_each sym_spelled r.right) in
             let q : p ≡ t.places + d = omega (arith, h.places) in
             let o : length g + owner (r ∷ []) d ≡ length g = omega (arith, owner_here r [] d l) in
-            ap (λ j. get_or u.owners j 0) q ∙ a.owners_new d n ∙ h.rules
+            ap (owner_in u) q ∙ a.owners_new d n ∙ h.rules
             ∙ sym (ap (owner (g ++ r ∷ [])) e ∙ owner_behind g (r ∷ []) d ∙ o)
       ]
 
-  firsts_pushed : (k : ℕ) → k < length (g ++ r ∷ []) → get_or u.firsts k 0 ≡ first_place_lem (g ++ r ∷ []) k
+  firsts_pushed : (k : ℕ) → k < length (g ++ r ∷ []) → first_in u k ≡ first_place_lem (g ++ r ∷ []) k
   firsts_pushed k l =
       elim (old_or_last k l) [
         | inl j ↦ a.firsts_kept k (omega (arith, h.rules)) ∙ h.firsts k j ∙ sym (first_before g (r ∷ []) k j)
         | inr e ↦
-            ap (λ i. get_or u.firsts i 0) (e ∙ sym h.rules) ∙ a.first_new ∙ h.places
+            ap (first_in u) (e ∙ sym h.rules) ∙ a.first_new ∙ h.places
             ∙ sym (ap (first_place_lem (g ++ r ∷ [])) e ∙ first_behind g r [])
       ]
 
-  lefts_pushed : (k : ℕ) → k < length (g ++ r ∷ []) → get_or u.lefts k 0 ≡ (rule (g ++ r ∷ []) k).left
+  lefts_pushed : (k : ℕ) → k < length (g ++ r ∷ []) → left_in u k ≡ (rule (g ++ r ∷ []) k).left
   lefts_pushed k l =
       elim (old_or_last k l) [
         | inl j ↦ a.lefts_kept k (omega (arith, h.rules)) ∙ h.lefts k j ∙ sym (ap (λ (x : Rule). x.left) (rule_before g (r ∷ []) k j))
         | inr e ↦
-            ap (λ i. get_or u.lefts i 0) (e ∙ sym h.rules) ∙ a.left_new
+            ap (left_in u) (e ∙ sym h.rules) ∙ a.left_new
             ∙ sym (ap (λ i. (rule (g ++ r ∷ []) i).left) e ∙ ap (λ (x : Rule). x.left) (rule_behind g r []))
       ]
 

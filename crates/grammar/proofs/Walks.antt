@@ -14,7 +14,7 @@ use Rattle.grammar.specs.Grammar.{pick, each, Sym, sign, name, Grammar}
 use Rattle.grammar.specs.Spelling.{sym_of}
 use Rattle.grammar.specs.Places.{places, rest, next_code}
 use Rattle.grammar.specs.Rows.{vanishing, producing, opening, named}
-use Rattle.grammar.specs.Table.{Shows, ReadOff, RowAt}
+use Rattle.grammar.specs.Table.{Shows, ReadOff, RowAt, code_in}
 use Rattle.grammar.proofs.Spelled.{syms_of_spelled}
 use Rattle.grammar.proofs.Places.{place_next, rest_fits, code_range, code_complete, code_sign, code_name}
 
@@ -27,7 +27,7 @@ sym_of_name : (b : ℕ) → 32 ≤ b → sym_of b ≡ name (b - 32)
 sym_of_name b h = rw (le-ltb b 32 h)
 
 module _ {t : Table} {g : Grammar} (s : Shows t g) (p : ℕ) (h : p < places g) where
-  pub complete_at : 64 ≤ get_or t.symbols p 0 → rest g p ≡ []
+  pub complete_at : 64 ≤ code_in t p → rest g p ≡ []
   complete_at k =
       let fit = rest_fits g p s.fits in
       let e = s.holds.symbols p h in
@@ -40,7 +40,7 @@ module _ {t : Table} {g : Grammar} (s : Shows t g) (p : ℕ) (h : p < places g) 
       let n = place_next g p x γ e in
       (e ∙ ap (λ β. x ∷ β) (sym (ap (rest g) (add-one p) ∙ n.rests)), omega (arith, n.within))
 
-  pub symbol_at_lem : get_or t.symbols p 0 < 64 → (rest g p ≡ sym_of (get_or t.symbols p 0) ∷ rest g (p + 1)) × (p + 1 < places g)
+  pub symbol_at_lem : code_in t p < 64 → (rest g p ≡ sym_of (code_in t p) ∷ rest g (p + 1)) × (p + 1 < places g)
   symbol_at_lem k =
       let e = s.holds.symbols p h in
       let c = next_code (rest g p) in
@@ -51,7 +51,7 @@ module _ {t : Table} {g : Grammar} (s : Shows t g) (p : ℕ) (h : p < places g) 
             let f = code_name (rest g p) (rest_fits g p s.fits) l (omega arith) in
             (f.0, f.1 ∙ ap (λ y. y ∷ f.0) (sym (sym_of_name c l)))
       ] in
-      next_at (sym_of (get_or t.symbols p 0)) x.0 (x.1 ∙ ap (λ b. sym_of b ∷ x.0) (sym e))
+      next_at (sym_of (code_in t p)) x.0 (x.1 ∙ ap (λ b. sym_of b ∷ x.0) (sym e))
 
 -- ---- what is read off, by the code of the first symbol
 

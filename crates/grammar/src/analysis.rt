@@ -4,10 +4,12 @@ ghost use Rattle.words.specs.Iter.{Grew, Up, iter};
 ghost use Rattle.words.specs.Rows.{size};
 ghost use Rattle.grammar.specs.Grammar.{pick};
 ghost use Rattle.grammar.specs.Analysis.{first_round as first_of_rules, first_rule_lem as first_of_rule, firsts as firsts_of, lowest as lowest_of, names_in, nullable as nullable_of, productive as productive_of, reachable as reachable_of, useless as useless_of};
-ghost use Rattle.grammar.specs.Analysed.{Analyses, ExactAtPlaces, Judges, listed};
+ghost use Rattle.grammar.specs.Analysed.{Analyses, ExactAtPlaces, IsBehind, Judges, behind_in, listed, passes_in};
 ghost use Rattle.grammar.specs.Marking.{marked, marked_round};
 ghost use Rattle.grammar.specs.Rows.{opening, vanishing};
 ghost use Rattle.grammar.specs.Table.{OfGrammar, OfRule, OfGrammarWith, ReadOff};
+
+use std::array;
 
 use crate::rows::{row_names, row_opening, row_produces, row_vanishes};
 use crate::table::{COMPLETE, Table};
@@ -139,52 +141,48 @@ pub fn firsts(table: &Table, nullable: u64) -> [u64; 32]
     firsts
 }
 
-/// At each place, of what stands behind its next symbol: the signs that it can begin with, and whether it can vanish.
+/// Of what stands behind the next symbol of a place: the signs that it can begin with, and whether it can vanish.
+#[derive(Clone, Copy)]
+pub struct Behind {
+    pub signs: u64,
+    pub vanishes: bool,
+}
+
+/// What stands behind the next symbol of each place.
 #[derive(Clone, Copy)]
 pub struct Analysis {
-    pub behind: [u64; 192],
-    pub passes: [bool; 192],
+    pub places: [Behind; 192],
 }
 
 impl Analysis {
     /// The signs that can begin what stands behind the next symbol of a place; none past the end.
     pub fn behind_at(&self, place: usize) -> u64
-        ensures { result ≡ slice_index self.now.behind place }
+        ensures { result ≡ behind_in self.now place }
     {
-        if place < self.behind.len() {
-            self.behind[place]
-        } else {
-            0
-        }
+        self.places.get(place).map_or(0, |behind| behind.signs)
     }
 
     /// Whether what stands behind the next symbol of a place can vanish; not past the end.
     pub fn passes_at(&self, place: usize) -> bool
-        ensures { result ≡ slice_index_or self.now.passes place false }
+        ensures { result ≡ passes_in self.now place }
     {
-        place < self.passes.len() && self.passes[place]
+        self.places.get(place).is_some_and(|behind| behind.vanishes)
     }
 }
 
-/// The signs that can begin what stands behind the next symbol of a place.
-fn signs_behind(table: &Table, place: usize, nullable: u64, firsts: &[u64]) -> u64
-    ensures { ReadOff table.now (λ β. opening nullable firsts.now (drop 1 β)) place result }
+/// What stands behind the next symbol of a place.
+fn behind_of(table: &Table, place: usize, nullable: u64, firsts: &[u64]) -> Behind
+    ensures { IsBehind table.now nullable firsts.now place result }
 {
-    if table.symbol_at(place) < COMPLETE {
-        row_opening(table, place + 1, nullable, firsts)
-    } else {
-        0
+    if table.symbol_at(place) >= COMPLETE {
+        return Behind {
+            signs: 0,
+            vanishes: true,
+        };
     }
-}
-
-/// Whether what stands behind the next symbol of a place can vanish.
-fn vanishes_behind(table: &Table, place: usize, nullable: u64) -> bool
-    ensures { ReadOff table.now (λ β. vanishing nullable (drop 1 β)) place result }
-{
-    if table.symbol_at(place) < COMPLETE {
-        row_vanishes(table, place + 1, nullable)
-    } else {
-        true
+    Behind {
+        signs: row_opening(table, place + 1, nullable, firsts),
+        vanishes: row_vanishes(table, place + 1, nullable),
     }
 }
 
@@ -195,13 +193,8 @@ pub fn analyse(table: &Table) -> Analysis
 {
     let nullable = nullable(table);
     let firsts = firsts(table, nullable);
-    let mut behind = [0; 192];
-    let mut passes = [false; 192];
-    for place in 0..192 {
-        behind[place] = signs_behind(table, place, nullable, &firsts);
-        passes[place] = vanishes_behind(table, place, nullable);
-    }
-    Analysis { behind, passes }
+    let places = array::from_fn(|place| behind_of(table, place, nullable, &firsts));
+    Analysis { places }
 }
 
 /// The lowest of the names of which nothing comes; if there are none, the lowest of those that are not reached.

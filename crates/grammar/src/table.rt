@@ -1,7 +1,7 @@
 // A grammar as a table: what comes next at each of its places, and which rule the place is in.
-ghost use Rattle.std.specs.Prelude.{◌≡◌, ◌+◌, ◌<◌, [], length, if◌then◌else◌, nat_lt, slice_index};
+ghost use Rattle.std.specs.Prelude.{◌≡◌, ◌+◌, ◌<◌, [], length, nat_lt};
 ghost use Rattle.std.specs.List.{prefix_len};
-ghost use Rattle.grammar.specs.Table.{Added, Answers, Holds, NumberOf, PlaceOf, RowAt};
+ghost use Rattle.grammar.specs.Table.{Added, Answers, Holds, NumberOf, PlaceOf, RowAt, first_in, owner_in, symbol_in, left_in};
 
 use crate::spelling::is_grammar;
 
@@ -18,14 +18,20 @@ pub struct Table {
     pub rules: usize,
     /// How many places.
     pub places: usize,
+    // Symbols and rules of places stand apart, since a row of symbols is copied in one piece and lent as a slice.
     /// What comes next at each place: a sign, 32 and a name, or `COMPLETE`.
     pub symbols: [u8; 192],
     /// The rule of each place.
     pub owners: [u8; 192],
-    /// The first place of each rule.
-    pub firsts: [u8; 64],
-    /// The name that each rule is for.
-    pub lefts: [u8; 64],
+    /// Each rule, but for its row.
+    pub heads: [Head; 64],
+}
+
+/// The first place of a rule, and the name that it is for.
+#[derive(Clone, Copy)]
+pub struct Head {
+    pub first: u8,
+    pub left: u8,
 }
 
 /// A place in a rule: which rule, and how many of its symbols are done.
@@ -45,46 +51,30 @@ fn symbol_count(codes: &[u8]) -> usize
 impl Table {
     /// What comes next at a place.
     pub fn symbol_at(&self, place: usize) -> u8
-        ensures { result ≡ (if nat_lt place 192 then slice_index self.now.symbols place else 64) }
+        ensures { result ≡ symbol_in self.now place }
     {
-        if place < self.symbols.len() {
-            self.symbols[place]
-        } else {
-            COMPLETE
-        }
+        self.symbols.get(place).copied().unwrap_or(COMPLETE)
     }
 
     /// The rule that a place is in.
     pub fn owner_of(&self, place: usize) -> u8
-        ensures { result ≡ slice_index self.now.owners place }
+        ensures { result ≡ owner_in self.now place }
     {
-        if place < self.owners.len() {
-            self.owners[place]
-        } else {
-            0
-        }
+        self.owners.get(place).copied().unwrap_or(0)
     }
 
     /// The place where a rule begins.
     pub fn first_of(&self, rule: usize) -> u8
-        ensures { result ≡ slice_index self.now.firsts rule }
+        ensures { result ≡ first_in self.now rule }
     {
-        if rule < self.firsts.len() {
-            self.firsts[rule]
-        } else {
-            0
-        }
+        self.heads.get(rule).map_or(0, |head| head.first)
     }
 
     /// The name that a rule is for.
     pub fn left_of(&self, rule: usize) -> u8
-        ensures { result ≡ slice_index self.now.lefts rule }
+        ensures { result ≡ left_in self.now rule }
     {
-        if rule < self.lefts.len() {
-            self.lefts[rule]
-        } else {
-            0
-        }
+        self.heads.get(rule).map_or(0, |head| head.left)
     }
 
     /// The symbols of the row that comes at a place.
@@ -97,18 +87,18 @@ impl Table {
 
     /// The rule of a place, and how much of it is done there.
     pub fn place_of(&self, number: usize) -> Place
-        ensures rule { result.rule ≡ slice_index self.now.owners number }
+        ensures rule { result.rule ≡ owner_in self.now number }
         ensures marks { PlaceOf self.now number result }
     {
         let rule = self.owner_of(number);
         let done = number.saturating_sub(self.first_of(rule as usize) as usize);
-        let dot = if done < 256 { done as u8 } else { 0 };
+        let dot = u8::try_from(done).unwrap_or(0);
         Place { rule, dot }
     }
 
     /// The number of a place.
     pub fn number_of(&self, place: Place) -> usize
-        ensures value { result ≡ slice_index self.now.firsts place.rule + place.dot }
+        ensures value { result ≡ first_in self.now place.rule + place.dot }
         ensures marks { NumberOf self.now place result }
     {
         self.first_of(place.rule as usize) as usize + place.dot as usize
@@ -123,8 +113,7 @@ impl Table {
             places: 0,
             symbols: [0; 192],
             owners: [0; 192],
-            firsts: [0; 64],
-            lefts: [0; 64],
+            heads: [Head { first: 0, left: 0 }; 64],
         }
     }
 
@@ -137,8 +126,8 @@ impl Table {
         let rule = self.rules;
         let from = self.places;
         let end = from + row.len();
-        self.lefts[rule] = left;
-        self.firsts[rule] = from as u8;
+        let first = from as u8;
+        self.heads[rule] = Head { first, left };
         self.symbols[from..end].copy_from_slice(row);
         self.symbols[end] = COMPLETE;
         self.owners[from..end + 1].fill(rule as u8);

@@ -1,22 +1,16 @@
-use Rattle.std.proofs.Common.{refl, arith}
+use Rattle.std.proofs.Common.{arith, rules}
 use Rattle.grammar.specs.Grammar.{Grammar}
 use Rattle.grammar.specs.Table.{Shows}
-use Rattle.grammar.proofs.Behind.{filled_more}
-use Rattle.grammar.proofs.Answered.{filled_analysed, exact_behind}
+use Rattle.grammar.specs.Analysed.{no_behind, IsBehind}
+use Rattle.grammar.proofs.Behind.{made_each}
+use Rattle.grammar.proofs.Answered.{analysed_each, exact_behind}
 use Rattle.grammar.proofs.analysis.analyse.Goals as goal
-
-pub loop-place-init : goal.loop-place-init
-loop-place-init c = (record { long = refl; good = λ p h. absurd (omega arith) }, record { long = refl; good = λ p h. absurd (omega arith) })
-
-pub loop-place-preserved : goal.loop-place-preserved
-loop-place-preserved c = (
-  filled_more c.loop-place.invariant.0 c.signs_behind.result c.loop-place-test.true c.signs_behind.ensures,
-  filled_more c.loop-place.invariant.1 c.vanishes_behind.result c.loop-place-test.true c.vanishes_behind.ensures,
-)
 
 pub returns : goal.returns
 returns c =
+    let each = made_each _ (IsBehind c.args.table.now c.nullable-nullable.result c.firsts-firsts.result) _ (λ i y q k. search rules)
+    c.from_fn-places.result 0 192 c.from_fn-places.ensures.items.each in
     let value = λ (g : Grammar) (s : Shows c.args.table.now g).
     let nullable = c.nullable-nullable.ensures g s in
-    filled_analysed s nullable (c.firsts-firsts.ensures g s nullable) c.loop-place.invariant.0 c.loop-place.invariant.1 c.loop-place-test.false in
+    analysed_each _ s nullable (c.firsts-firsts.ensures g s nullable) (λ p h. each p (omega arith) h no_behind) in
     record { value = value; meaning = λ g s. exact_behind s.fits (value g s) }

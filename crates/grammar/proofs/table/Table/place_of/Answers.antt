@@ -1,15 +1,14 @@
-use Rattle.std.proofs.Common.{◌-◌, get_or, ap, ◌∙◌, arith}
+use Rattle.std.proofs.Common.{◌≡◌, ◌-◌, ◌<◌, ap, ◌∙◌, arith, rules}
+use Rattle.grammar.specs.Table.{first_in}
 use Rattle.grammar.proofs.Places.{places_bound}
 use Rattle.grammar.proofs.Marks.{marks_place}
 use Rattle.grammar.proofs.table.Table.place_of.Goals as goal
 
-pub returns-then-done-lt256 : goal.returns-then-done-lt256
-returns-then-done-lt256 c =
+pub returns-clause-marks : goal.returns-clause-marks
+returns-clause-marks c = λ g s h.
     let owner = c.owner_of-rule.ensures in
-    let first = c.first_of.ensures ∙ ap (λ k. get_or c.args.self.now.firsts k 0) owner in
-    let dot = c.saturating_sub-done.ensures ∙ ap (λ f. c.args.number - f) first in
-    record { rule = owner; marks = λ g s h. marks_place s c.args.number h _ _ owner dot }
-
--- past all places
-pub returns-else-done-lt256 : goal.returns-else-done-lt256
-returns-else-done-lt256 c = record { rule = c.owner_of-rule.ensures; marks = λ g s h. absurd (omega (arith, places_bound g s.fits)) }
+    let first = c.first_of.ensures ∙ ap (first_in c.args.self.now) owner in
+    let done = c.saturating_sub-done.ensures ∙ ap (λ f. c.args.number - f) first in
+    let small : c.saturating_sub-done.result < 256 = omega (arith, places_bound g s.fits) in
+    let dot : c.unwrap_or-dot.result ≡ c.saturating_sub-done.result = search rules in
+    marks_place s c.args.number h _ _ owner (dot ∙ done)
