@@ -1,12 +1,12 @@
 -- What the analyses answer, in the subject's words: FIRST and nullable behind each place, and whether a name is of use.
-use Rattle.std.proofs.Common.{◌≡◌, ℕ, ◌<◌, ◌≤◌, Bool, true, false, List, [], drop, Some, None, Option, sym, ap, ◌∙◌, ap₂, arith}
+use Rattle.std.proofs.Common.{◌≡◌, ℕ, ◌<◌, true, List, [], drop, Some, None, Option, sym, ap, ◌∙◌, ap₂, arith}
 use Rattle.std.specs.Prelude.{slice_index_or}
 use Rattle.grammar.specs.declared.analysis.Analysis.{Analysis}
 use Rattle.grammar.specs.declared.table.Table.{Table}
 use Rattle.grammar.specs.Grammar.{Grammar, a_grammar}
 use Rattle.grammar.specs.Places.{places, rest}
 use Rattle.grammar.specs.Rows.{vanishing, opening}
-use Rattle.grammar.specs.Table.{Shows, ReadOff}
+use Rattle.grammar.specs.Table.{Shows}
 use Rattle.grammar.specs.Analysis.{nullable, firsts, behind, passes, useless}
 use Rattle.grammar.specs.Analysed.{Analysed, ExactBehind, listed, Judged, no_behind, IsBehind}
 use Rattle.grammar.proofs.Places.{places_bound}

@@ -1,5 +1,5 @@
 -- What stands behind the next symbol of a place is the row at the next place; and an array of answers, made place by place.
-use Rattle.std.proofs.Common.{◌≡◌, ℕ, zero, suc, ◌+◌, ◌<◌, ◌≤◌, cond, ltb, List, [], length, get_or, drop, set, sym, ap, ◌∙◌, subst, inl, inr, arith}
+use Rattle.std.proofs.Common.{◌≡◌, ℕ, zero, suc, ◌+◌, ◌<◌, ◌≤◌, List, [], get_or, drop, sym, ap, ◌∙◌, subst, inl, inr, arith}
 use Rattle.std.specs.Array.{IsFromFnResultFrom}
 use denote.Param.Members.{Mut, Called}
 use Rattle.std.proofs.lemmas.Bool.{cases_eq}

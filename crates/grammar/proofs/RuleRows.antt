@@ -1,5 +1,5 @@
 -- A rule's row and name in a table that shows a grammar, and what marks do as a rule is reckoned with.
-use Rattle.std.proofs.Common.{◌≡◌, ℕ, ◌<◌, Bool, List, length, get_or, ap, ◌∙◌, ap₂, arith}
+use Rattle.std.proofs.Common.{◌≡◌, ℕ, ◌<◌, Bool, List, length, ap, ◌∙◌, ap₂, arith}
 use lib.Bits.{bit_or}
 use lib.Count.{ones}
 use Rattle.words.specs.Iter.{Up}

@@ -9,7 +9,7 @@ use Rattle.grammar.specs.Grammar.{pick, every, Sym, sign, name, Grammar, rule, s
 use Rattle.grammar.specs.Spelling.{sym_spelled}
 use Rattle.grammar.specs.Places.{places, rest, first_place_lem, next_code}
 use Rattle.grammar.specs.Rows.{begins_with}
-use Rattle.grammar.specs.Table.{Shows}
+use Rattle.grammar.specs.Table.{Shows, left_in}
 use Rattle.grammar.proofs.Places.{rest_fits}
 use Rattle.grammar.proofs.Shown.{symbol_shown}
 use Rattle.grammar.proofs.Sizes.{sizes}
@@ -27,7 +27,7 @@ code_begins n (name m ∷ β) h f =
     (cases_eq n m)
 
 module _ {t : Table} {g : Grammar} (s : Shows t g) where
-  pub next_shown : (p k x y : ℕ) → p < places g → k < length g → x ≡ cond (ltb p 192) (get_or t.symbols p 0) 64 → y ≡ get_or t.lefts k 0 →
+  pub next_shown : (p k x y : ℕ) → p < places g → k < length g → x ≡ cond (ltb p 192) (get_or t.symbols p 0) 64 → y ≡ left_in t k →
       eqb x (32 + y) ≡ begins_with (rule g k).left (rest g p)
   next_shown p k x y h l e d =
       let a : x ≡ next_code (rest g p) = e ∙ symbol_shown s p h in
