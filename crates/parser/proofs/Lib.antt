@@ -22,8 +22,8 @@ pub mod Continues
 pub mod Theorems
 pub mod Steps
 pub mod ToldMoves
-pub mod CheckLoop
 pub mod RunLoop
+pub mod CheckRun
 pub mod AdvanceLoop
 pub mod Kept
 pub mod Stands

@@ -1,5 +1,5 @@
 -- One move as the code tells it: a push on lent words, and the move that an action stands for.
-use Rattle.std.proofs.Common.{◌≡◌, ℕ, ◌+◌, ◌*◌, ◌<◌, Bool, true, false, ltb, List, [], ◌∷◌, length, get_or, set, sym, refl, ap, ◌∙◌, subst, arith}
+use Rattle.std.proofs.Common.{◌≡◌, ℕ, ◌+◌, ◌*◌, ◌<◌, Bool, true, false, ltb, List, [], ◌∷◌, length, get_or, set, Err, Result, sym, refl, ap, ◌∙◌, subst, arith}
 use Rattle.std.proofs.lemmas.List.{set_past}
 use Rattle.std.proofs.lemmas.Bool.{ltb-true, ltb-false}
 use Rattle.words.specs.Packed.{unpacked}
@@ -10,8 +10,9 @@ use Rattle.items.specs.Sets.{reduce_at, shift_at}
 use Rattle.items.specs.Actions.{action_of}
 use Rattle.items.specs.declared.sets.Action.TheVariants.{Reduce, Shift, Stuck}
 use Rattle.parser.specs.declared.config.State.{State}
-use Rattle.parser.specs.declared.config.Move.{Move}
-use Rattle.parser.specs.declared.config.Move.TheVariants.{Full}
+use Rattle.parser.specs.declared.config.Step.{Step}
+use Rattle.parser.specs.declared.config.Halt.{Halt}
+use Rattle.parser.specs.declared.config.Halt.TheVariants.{Full}
 use Rattle.parser.specs.Drive.{Config, config, Moved, full, stuck, on_action, moved, shift_move, reduce_move}
 use Rattle.parser.specs.Told.{Told, config_of, moved_by}
 use Rattle.parser.proofs.Steps.{reduce_at_rule, shift_at_sign, sign_ahead}
@@ -22,7 +23,7 @@ room_counts m h r l = let k = ltb-true h (length (unpacked m)) (sym r) in omega 
 
 -- where there is no room nothing is written
 pub told_full : (m n : List ℕ) (s : State) (x : Moved) (h b : ℕ) → false ≡ ltb h (length (unpacked m)) → unpacked n ≡ set (unpacked m) h b → x ≡ full →
-    Told x (config_of m s) Full (config_of n s)
+    Told x (config_of m s) (Err Full) (config_of n s)
 unfolding moved_by
 told_full m n s x h b r w e =
     record {
@@ -30,7 +31,7 @@ told_full m n s x h b r w e =
       kept = λ _. ap (λ z. config z s.height s.taken s.items.words) (w ∙ set_past (unpacked m) h b (ltb-false h (length (unpacked m)) (sym r)));
     }
 
-pub told_as : {x y : Moved} {c d : Config} {r : Move} → x ≡ y → Told y c r d → Told x c r d
+pub told_as : {x y : Moved} {c d : Config} {r : Result Step Halt} → x ≡ y → Told y c r d → Told x c r d
 told_as {c = c} {d = d} {r = r} e t = subst (λ z. Told z c r d) (sym e) t
 
 -- ---- the move of an action

@@ -1,28 +1,22 @@
 // A silent run of the parser on lent memory: a countdown in its first words, the stack in the others.
-ghost use Rattle.std.specs.Prelude.{◌≡◌, ◌-◌, ◌*◌, ◌^◌, ◌<◌, ◌≤◌, ◌&&◌, length, take, drop, replicate, ◌==◌, slice_index};
-ghost use Rattle.words.specs.Countdown.{Ticked, value};
+ghost use Rattle.std.specs.Prelude.{◌≡◌, ◌-◌, ◌*◌, ◌^◌, ◌<◌, ◌≤◌, ◌&&◌, length, replicate, ◌==◌, slice_index};
 ghost use Rattle.words.specs.Packed.{unpacked};
 ghost use Rattle.grammar.specs.Grammar.{Grammar};
-ghost use Rattle.grammar.specs.Table.{Shows};
-ghost use Rattle.grammar.specs.Analysed.{Analysed};
-ghost use Rattle.items.specs.Sets.{start_set};
-ghost use Rattle.parser.specs.Drive.{check_of, config, ending as ending_of, gave_out, moved, run_for};
+ghost use Rattle.grammar.specs.Prepared.{Describes};
+ghost use Rattle.parser.specs.Drive.{check_of, ending as ending_of, gave_out};
 ghost use Rattle.parser.specs.Checks.{Checks};
-ghost use Rattle.parser.specs.Told.{Told, config_of, ended};
+ghost use Rattle.parser.specs.Told.{config_of, ended, halted};
 
-use crate::config::{Move, State};
-use crate::run::{pay, prepare, take_move};
-use grammar::analysis::Analysis;
-use grammar::table::{FIRST_NAME, Table};
-use items::sets::start;
+use crate::config::{Halt, State};
+use crate::run::{begin, run};
+use grammar::prepared::Prepared;
+use grammar::table::FIRST_NAME;
 use words::packed::read;
 use words::rows::zeroes;
 
-/// How a run ends.
-#[derive(Clone, Copy)]
-pub enum Ending {
-    /// The text is read.
-    Accepted,
+/// Why a text is not read.
+#[derive(Clone, Copy, Debug, PartialEq, Eq)]
+pub enum Unread {
     /// The text is wrong behind so many signs.
     Wrong(u64),
     /// The moves or the room gave out.
@@ -37,55 +31,45 @@ fn is_read(stack: &[u64], state: &State, text: &[u8]) -> bool
 }
 
 /// The ending where there is no move.
-fn end_at(stack: &[u64], state: &State, text: &[u8]) -> Ending
+fn end_at(stack: &[u64], state: &State, text: &[u8]) -> Result<(), Unread>
     ensures { ended result ≡ ending_of text.now (config_of stack.now state.now) }
 {
     if is_read(stack, state, text) {
-        Ending::Accepted
+        Ok(())
     } else {
-        Ending::Wrong(state.taken as u64)
+        Err(Unread::Wrong(state.taken as u64))
     }
 }
 
-/// Runs from the empty stack while there are moves.
-fn run(work: &mut [u64], fuel: usize, text: &[u8], table: &Table, analysis: &Analysis) -> Ending
-    requires { fuel ≤ length work.old }
-    ensures { (g : Grammar) → Shows table.now g → Analysed g analysis.now → ended result ≡ run_for (value (take fuel work.old)) g text.now (config (unpacked (drop fuel work.old)) 0 0 (start_set g)) }
+/// Runs from the empty stack while there are moves: more signs than there are are never taken.
+fn read_through(
+    moves: &mut [u64],
+    stack: &mut [u64],
+    text: &[u8],
+    grammar: &Prepared,
+) -> Result<(), Unread>
+    ensures { (g : Grammar) → Describes grammar.now g → ended result ≡ check_of g text.now (8 * length stack.old) (2 ^ (64 * length moves.old) - 1) }
 {
-    let mut state = State {
-        height: 0,
-        taken: 0,
-        items: start(table, analysis),
-    };
-    'turn: while pay(work, fuel) {
-        match take_move(work, fuel, &mut state, text, table, analysis) {
-            Move::Shifted => {}
-            Move::Reduced(_) => {}
-            Move::Stuck => return end_at(&work[fuel..], &state, text),
-            Move::Full => return Ending::GaveOut,
-        }
+    let mut state = begin(moves, stack, grammar);
+    match run(moves, stack, &mut state, text.len() + 1, text, grammar) {
+        Err(Halt::Stuck) => end_at(stack, &state, text),
+        Err(Halt::Full) => Err(Unread::GaveOut),
+        // never: more signs than there are are not taken
+        Ok(()) => Err(Unread::GaveOut),
     }
-    Ending::GaveOut
 }
 
 /// Whether the text is read, or where it is wrong: `fuel` words for the number of moves, the rest for the stack. The work is cleared.
-pub fn check(
-    work: &mut [u64],
-    fuel: usize,
-    text: &[u8],
-    table: &Table,
-    analysis: &Analysis,
-) -> Ending
-    ensures value { fuel ≤ length work.old → (g : Grammar) → Shows table.now g → Analysed g analysis.now → ended result ≡ check_of g text.now (8 * (length work.old - fuel)) (2 ^ (64 * fuel) - 1) }
+pub fn check(work: &mut [u64], fuel: usize, text: &[u8], grammar: &Prepared) -> Result<(), Unread>
+    ensures value { fuel ≤ length work.old → (g : Grammar) → Describes grammar.now g → ended result ≡ check_of g text.now (8 * (length work.old - fuel)) (2 ^ (64 * fuel) - 1) }
     ensures cleared { fuel ≤ length work.old → work.new ≡ replicate (length work.old) 0 }
     ensures refused { length work.old < fuel → (ended result ≡ gave_out) × (work.new ≡ work.old) }
-    ensures meaning { Checks table.now analysis.now (length work.old) fuel text.now result }
+    ensures meaning { Checks grammar.now (length work.old) fuel text.now result }
 {
-    if fuel > work.len() {
-        return Ending::GaveOut;
-    }
-    prepare(work, fuel);
-    let ending = run(work, fuel, text, table, analysis);
+    let Some((moves, stack)) = work.split_at_mut_checked(fuel) else {
+        return Err(Unread::GaveOut);
+    };
+    let ending = read_through(moves, stack, text, grammar);
     zeroes(work);
     ending
 }

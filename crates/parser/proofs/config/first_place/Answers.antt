@@ -4,7 +4,7 @@ use Rattle.parser.proofs.Steps.{first_place_all}
 use Rattle.parser.proofs.config.first_place.Goals as goal
 
 pub returns-then-rule-table : goal.returns-then-rule-table
-returns-then-rule-table c g s l = c.first_of.ensures ∙ s.holds.firsts c.args.rule (omega (arith, s.holds.rules))
+returns-then-rule-table c g s l = c.from.ensures ∙ c.first_of.ensures ∙ s.holds.firsts c.args.rule (omega (arith, s.holds.rules))
 
 pub returns-else-rule-table : goal.returns-else-rule-table
 returns-else-rule-table c g s l =

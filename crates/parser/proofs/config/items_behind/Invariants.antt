@@ -1,11 +1,10 @@
 use Rattle.std.proofs.Common.{◌≡◌}
 use Rattle.words.specs.Packed.{stacked, unpacked}
 use Rattle.grammar.specs.Grammar.{Grammar}
-use Rattle.grammar.specs.Table.{Shows}
-use Rattle.grammar.specs.Analysed.{Analysed}
+use Rattle.grammar.specs.Prepared.{Describes}
 use Rattle.parser.specs.Drive.{items_of}
 use Rattle.parser.proofs.config.items_behind.Given as goal
 
 abbrev pub invariant-loop-at : goal.invariant-loop-at
 invariant-loop-at l =
-    (g : Grammar) → Shows l.table g → Analysed g l.analysis → l.items.words ≡ items_of g (stacked l.at (unpacked l.stack))
+    (g : Grammar) → Describes l.grammar g → l.items.words ≡ items_of g (stacked l.at (unpacked l.stack))

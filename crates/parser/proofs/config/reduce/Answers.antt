@@ -2,16 +2,16 @@ use Rattle.std.proofs.Common.{◌*◌, ◌<◌, length, sym, arith, rules}
 use mathlib.Core.Bool.{false≢true}
 use mir.Facts.{Fits-of_lt}
 use Rattle.std.proofs.lemmas.Bool.{ltb-true, ltb-false}
-use Rattle.parser.specs.Told.{config_of, moved_by, stays}
+use Rattle.parser.specs.Told.{config_of, moved_by}
 use Rattle.parser.proofs.Steps.{reduce_done, reduce_full}
 use Rattle.parser.proofs.ToldMoves.{room_counts, told_full}
 use Rattle.parser.proofs.config.reduce.Goals as goal
 
 pub returns-then-not-push : goal.returns-then-not-push
-returns-then-not-push c g s a k =
+returns-then-not-push c g s k =
     told_full c.args.stack.now _ c.args.state.now _ _ _ c.if-not-push.ensures.room c.push.ensures.value
-    (reduce_full g (config_of c.args.stack.now c.args.state.now) c.args.rule _ _ _ (c.symbols_of-count.ensures g s k)
-    c.saturating_sub-base.ensures (c.name_of-name.ensures g s k) (ltb-false _ _ (sym c.if-not-push.ensures.room)))
+    (reduce_full g (config_of c.args.stack.now c.args.state.now) c.args.rule _ _ _ (c.symbols_of-count.ensures g s.shows k)
+    c.saturating_sub-base.ensures (c.name_of-name.ensures g s.shows k) (ltb-false _ _ (sym c.if-not-push.ensures.room)))
 
 pub overflow_add-state : goal.overflow_add-state
 overflow_add-state c =
@@ -24,10 +24,10 @@ overflow_add-base c =
     Fits-of_lt (room_counts c.args.stack.now c.saturating_sub-base.result c.if-not-push.ensures.room most)
 
 pub returns : goal.returns
-unfolding moved_by stays
-returns c g s a k = record {
-  is = reduce_done g (config_of c.args.stack.now c.args.state.now) c.args.rule _ _ _ (c.symbols_of-count.ensures g s k)
-      c.saturating_sub-base.ensures (c.name_of-name.ensures g s k) _ _ _ (ltb-true _ _ (sym c.if-not-push.ensures.room))
-      c.push.ensures.value (omega arith) (c.items_after-state.ensures g s a);
+unfolding moved_by
+returns c g s k = record {
+  is = reduce_done g (config_of c.args.stack.now c.args.state.now) c.args.rule _ _ _ (c.symbols_of-count.ensures g s.shows k)
+      c.saturating_sub-base.ensures (c.name_of-name.ensures g s.shows k) _ _ _ (ltb-true _ _ (sym c.if-not-push.ensures.room))
+      c.push.ensures.value (omega arith) (c.items_after-state.ensures g s);
   kept = λ e. absurd (false≢true e);
 }

@@ -2,13 +2,13 @@ use Rattle.std.proofs.Common.{◌*◌, ◌<◌, length, sym, arith, rules}
 use mathlib.Core.Bool.{false≢true}
 use mir.Facts.{Fits-of_lt}
 use Rattle.std.proofs.lemmas.Bool.{ltb-true, ltb-false}
-use Rattle.parser.specs.Told.{config_of, moved_by, stays}
+use Rattle.parser.specs.Told.{config_of, moved_by}
 use Rattle.parser.proofs.Steps.{shift_done, shift_full}
 use Rattle.parser.proofs.ToldMoves.{room_counts, told_full}
 use Rattle.parser.proofs.config.shift.Goals as goal
 
 pub returns-then-not-push : goal.returns-then-not-push
-returns-then-not-push c g s a k =
+returns-then-not-push c g s k =
     told_full c.args.stack.now _ c.args.state.now _ _ _ c.if-not-push.ensures.room c.push.ensures.value
     (shift_full g (config_of c.args.stack.now c.args.state.now) c.args.sign (ltb-false _ _ (sym c.if-not-push.ensures.room)))
 
@@ -18,10 +18,10 @@ overflow_add-state c =
     Fits-of_lt (room_counts c.args.stack.now c.args.state.now.height c.if-not-push.ensures.room most)
 
 pub returns : goal.returns
-unfolding moved_by stays
-returns c g s a k = record {
+unfolding moved_by
+returns c g s k = record {
   is = shift_done g (config_of c.args.stack.now c.args.state.now) c.args.sign _ _ _ _
       (ltb-true _ _ (sym c.if-not-push.ensures.room)) c.push.ensures.value (omega arith)
-      (omega (arith, c.saturating_add-state.ensures)) (c.goto-state.ensures.value g s a);
+      (omega (arith, c.saturating_add-state.ensures)) (c.goto-state.ensures.value g s.shows s.analysed);
   kept = λ e. absurd (false≢true e);
 }

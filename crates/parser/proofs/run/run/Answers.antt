@@ -1,65 +1,27 @@
-use Rattle.std.proofs.Common.{sym, ◌∙◌}
-use Rattle.parser.specs.Told.{halted}
-use Rattle.parser.proofs.RunLoop.{Paid, Turn, run_out, turn_arrived, turn_shifted, turn_reduced, turn_full, turn_stuck}
+use Rattle.std.proofs.Common.{◌≡◌, Err, sym, ap, ◌∙◌}
+use Rattle.std.proofs.lemmas.Result.{err_from_is_err_and}
+use Rattle.parser.specs.Told.{config_of, halted}
+use Rattle.parser.proofs.RunLoop.{run_out, run_arrived, run_on, run_off}
 use Rattle.parser.proofs.run.run.Goals as goal
 
 pub returns-then-state-last : goal.returns-then-state-last
 unfolding halted
-returns-then-state-last c g s a =
-    let p : Paid c.args.fuel c.turn.work c.pay.new.work =
-    record { less = c.pay.ensures.moves.less c.turn-test.true; same_stack = c.pay.ensures.stack } in
-    sym (turn_arrived c.args.last g c.args.text.now c.turn.state p c.if-state-last.true) ∙ c.turn.invariant g s a
-
-pub turn-preserved-in-Shifted : goal.turn-preserved-in-Shifted
-turn-preserved-in-Shifted c g s a =
-    let t : Turn c.args.last g c.args.text.now c.args.fuel c.turn.work c.pay.new.work c.take_move.new.work c.turn.state c.take_move.new.state c.take_move.result =
-    record {
-      paid = record { less = c.pay.ensures.moves.less c.turn-test.true; same_stack = c.pay.ensures.stack };
-      before = c.if-state-last.false;
-      same_fuel = c.take_move.ensures.moves;
-      told = c.take_move.ensures.told g s a;
-    } in
-    sym (turn_shifted t c.in-Shifted.is)
-    ∙ c.turn.invariant g s a
+returns-then-state-last c g s =
+    sym (run_arrived c.args.last g c.args.text.now _ _ _ (c.tick.ensures.less c.turn-test.true) c.if-state-last.true) ∙ c.turn.invariant g s
 
 pub turn-preserved : goal.turn-preserved
-turn-preserved c g s a =
-    let t : Turn c.args.last g c.args.text.now c.args.fuel c.turn.work c.pay.new.work c.take_move.new.work c.turn.state c.take_move.new.state c.take_move.result =
-    record {
-      paid = record { less = c.pay.ensures.moves.less c.turn-test.true; same_stack = c.pay.ensures.stack };
-      before = c.if-state-last.false;
-      same_fuel = c.take_move.ensures.moves;
-      told = c.take_move.ensures.told g s a;
-    } in
-    sym (turn_reduced t _ c.in-Reduced.is)
-    ∙ c.turn.invariant g s a
+turn-preserved c g s =
+    sym (run_on c.args.last g c.args.text.now _ _ _ (c.tick.ensures.less c.turn-test.true) _ _ c.if-state-last.false (c.move_once.ensures g s) _ c.in_ok-move_once.was)
+    ∙ c.turn.invariant g s
 
-pub returns-in-Stuck : goal.returns-in-Stuck
-unfolding halted
-returns-in-Stuck c g s a =
-    let t : Turn c.args.last g c.args.text.now c.args.fuel c.turn.work c.pay.new.work c.take_move.new.work c.turn.state c.take_move.new.state c.take_move.result =
-    record {
-      paid = record { less = c.pay.ensures.moves.less c.turn-test.true; same_stack = c.pay.ensures.stack };
-      before = c.if-state-last.false;
-      same_fuel = c.take_move.ensures.moves;
-      told = c.take_move.ensures.told g s a;
-    } in
-    sym (turn_stuck t c.in-Stuck.is)
-    ∙ c.turn.invariant g s a
-
-pub returns-in-Full : goal.returns-in-Full
-unfolding halted
-returns-in-Full c g s a =
-    let t : Turn c.args.last g c.args.text.now c.args.fuel c.turn.work c.pay.new.work c.take_move.new.work c.turn.state c.take_move.new.state c.take_move.result =
-    record {
-      paid = record { less = c.pay.ensures.moves.less c.turn-test.true; same_stack = c.pay.ensures.stack };
-      before = c.if-state-last.false;
-      same_fuel = c.take_move.ensures.moves;
-      told = c.take_move.ensures.told g s a;
-    } in
-    sym (turn_full t c.in-Full.is)
-    ∙ c.turn.invariant g s a
+pub returns-in_err-move_once : goal.returns-in_err-move_once
+returns-in_err-move_once c g s =
+    let p = err_from_is_err_and c.from_residual.result c.from_residual.ensures.1 in
+    let z : c.from_residual.result ≡ Err c.in_err-move_once.field-0.0 = p.1 ∙ ap Err p.2 in
+    ap (λ r. halted r (config_of c.move_once.new.stack c.move_once.new.state)) z
+    ∙ sym (run_off c.args.last g c.args.text.now _ _ _ (c.tick.ensures.less c.turn-test.true) _ _ c.if-state-last.false (c.move_once.ensures g s) _ c.in_err-move_once.was)
+    ∙ c.turn.invariant g s
 
 pub returns : goal.returns
 unfolding halted
-returns c g s a = sym (run_out c.args.last g c.args.text.now _ _ (c.pay.ensures.moves.done c.turn-test.false).0) ∙ c.turn.invariant g s a
+returns c g s = sym (run_out c.args.last g c.args.text.now _ _ (c.tick.ensures.done c.turn-test.false).0) ∙ c.turn.invariant g s
