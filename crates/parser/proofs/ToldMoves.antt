@@ -1,5 +1,5 @@
 -- One move as the code tells it: a push on lent words, and the move that an action stands for.
-use Rattle.std.proofs.Common.{◌≡◌, ℕ, ◌+◌, ◌*◌, ◌<◌, Bool, true, false, ltb, List, [], ◌∷◌, length, get_or, set, Err, Result, sym, refl, ap, ◌∙◌, subst, arith}
+use Rattle.std.proofs.Common.{◌≡◌, ℕ, ◌+◌, ◌*◌, ◌<◌, Bool, true, false, ltb, List, [], ◌∷◌, length, get_or, set, Some, None, Err, Result, sym, refl, ap, ◌∙◌, subst, arith}
 use Rattle.std.proofs.lemmas.List.{set_past}
 use Rattle.std.proofs.lemmas.Bool.{ltb-true, ltb-false}
 use Rattle.words.specs.Packed.{unpacked}
@@ -8,7 +8,7 @@ use Rattle.grammar.specs.Grammar.{Grammar}
 use Rattle.grammar.proofs.Lists.{never}
 use Rattle.items.specs.Sets.{reduce_at, shift_at}
 use Rattle.items.specs.Actions.{action_of}
-use Rattle.items.specs.declared.sets.Action.TheVariants.{Reduce, Shift, Stuck}
+use Rattle.items.specs.declared.sets.Action.TheVariants.{Reduce, Shift}
 use Rattle.parser.specs.declared.config.State.{State}
 use Rattle.parser.specs.declared.config.Step.{Step}
 use Rattle.parser.specs.declared.config.Halt.{Halt}
@@ -41,31 +41,31 @@ module _ (g : Grammar) (ts : List ℕ) (c : Config) (t : ℕ) (ahead : t ≡ get
   unfolding moved
   at_sign rs e = ap (λ z. on_action g c z (reduce_at g c.items z)) (sym ahead) ∙ ap (on_action g c t) e
 
-  pub moved_reduce : (r : ℕ) → Reduce r ≡ action_of (reduce_at g c.items t) (shift_at g c.items t) → (r < length g) × (moved g ts c ≡ reduce_move g c r)
+  pub moved_reduce : (r : ℕ) → Some (Reduce r) ≡ action_of (reduce_at g c.items t) (shift_at g c.items t) → (r < length g) × (moved g ts c ≡ reduce_move g c r)
   unfolding action_of on_action
   moved_reduce r e = go (reduce_at g c.items t) (shift_at g c.items t) refl e
     where
-      go : (rs : List ℕ) (b : Bool) → reduce_at g c.items t ≡ rs → Reduce r ≡ action_of rs b → (r < length g) × (moved g ts c ≡ reduce_move g c r)
+      go : (rs : List ℕ) (b : Bool) → reduce_at g c.items t ≡ rs → Some (Reduce r) ≡ action_of rs b → (r < length g) × (moved g ts c ≡ reduce_move g c r)
       go (q ∷ rs) b f h = let same : q ≡ r = cc in (reduce_at_rule g c.items t r rs (f ∙ ap (λ z. z ∷ rs) same), at_sign (q ∷ rs) f ∙ ap (reduce_move g c) same)
       go [] true f h = never (cc)
       go [] false f h = never (cc)
 
-  pub moved_shift : Shift ≡ action_of (reduce_at g c.items t) (shift_at g c.items t) → (c.taken < length ts) × (moved g ts c ≡ shift_move g c t)
+  pub moved_shift : Some Shift ≡ action_of (reduce_at g c.items t) (shift_at g c.items t) → (c.taken < length ts) × (moved g ts c ≡ shift_move g c t)
   unfolding action_of on_action
   moved_shift e = go (reduce_at g c.items t) (shift_at g c.items t) refl refl e
     where
-      go : (rs : List ℕ) (b : Bool) → reduce_at g c.items t ≡ rs → shift_at g c.items t ≡ b → Shift ≡ action_of rs b →
+      go : (rs : List ℕ) (b : Bool) → reduce_at g c.items t ≡ rs → shift_at g c.items t ≡ b → Some Shift ≡ action_of rs b →
           (c.taken < length ts) × (moved g ts c ≡ shift_move g c t)
       go (q ∷ rs) b f k h = never (cc)
       go [] true f k h =
           let l = shift_at_sign g c.items t k in (sign_ahead ts c.taken (omega arith), at_sign [] f ∙ rw k refl)
       go [] false f k h = never (cc)
 
-  pub moved_stuck : Stuck ≡ action_of (reduce_at g c.items t) (shift_at g c.items t) → moved g ts c ≡ stuck
+  pub moved_stuck : None ≡ action_of (reduce_at g c.items t) (shift_at g c.items t) → moved g ts c ≡ stuck
   unfolding action_of on_action
   moved_stuck e = go (reduce_at g c.items t) (shift_at g c.items t) refl refl e
     where
-      go : (rs : List ℕ) (b : Bool) → reduce_at g c.items t ≡ rs → shift_at g c.items t ≡ b → Stuck ≡ action_of rs b → moved g ts c ≡ stuck
+      go : (rs : List ℕ) (b : Bool) → reduce_at g c.items t ≡ rs → shift_at g c.items t ≡ b → None ≡ action_of rs b → moved g ts c ≡ stuck
       go (q ∷ rs) b f k h = never (cc)
       go [] true f k h = never (cc)
       go [] false f k h = at_sign [] f ∙ rw k refl

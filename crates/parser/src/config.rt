@@ -36,9 +36,9 @@ pub fn lookahead(text: &[u8], taken: usize) -> u8
 pub fn items_behind(stack: &[u64], height: usize, grammar: &Prepared) -> ItemSet
     ensures { (g : Grammar) → Describes grammar.now g → result.words ≡ items_of g (stacked height (unpacked stack.now)) }
 {
-    let mut items = start(&grammar.table, &grammar.analysis);
+    let mut items = start(grammar);
     for at in 0..height {
-        items = goto(&items, &grammar.table, &grammar.analysis, read(stack, at));
+        items = goto(&items, grammar, read(stack, at));
     }
     items
 }
@@ -82,7 +82,7 @@ fn items_after(
     ensures { (g : Grammar) → Describes grammar.now g → result.words ≡ pick (count == 0) (goto_of g name before.now.words) (items_of g (stacked height (unpacked stack.now))) }
 {
     if count == 0 {
-        goto(before, &grammar.table, &grammar.analysis, name)
+        goto(before, grammar, name)
     } else {
         items_behind(stack, height, grammar)
     }
@@ -113,7 +113,7 @@ fn shift(stack: &mut [u64], state: &mut State, sign: u8, grammar: &Prepared) -> 
     if !push(stack, state.height, sign) {
         return Err(Halt::Full);
     }
-    state.items = goto(&state.items, &grammar.table, &grammar.analysis, sign);
+    state.items = goto(&state.items, grammar, sign);
     state.height += 1;
     state.taken = state.taken.saturating_add(1);
     Ok(Step::Shifted)
@@ -144,10 +144,9 @@ pub fn move_once(
     ensures { (g : Grammar) → Describes grammar.now g → Told (moved g text.now (config_of stack.old state.old)) (config_of stack.old state.old) result (config_of stack.new state.new) }
 {
     let sign = lookahead(text, state.taken);
-    match action_at(&state.items, &grammar.table, sign) {
+    match action_at(&state.items, &grammar.table, sign).ok_or(Halt::Stuck)? {
         Action::Reduce(rule) => reduce(stack, state, rule, grammar),
         Action::Shift => shift(stack, state, sign, grammar),
-        Action::Stuck => Err(Halt::Stuck),
     }
 }
 

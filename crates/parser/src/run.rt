@@ -22,7 +22,7 @@ pub fn begin(moves: &mut [u64], stack: &mut [u64], grammar: &Prepared) -> State
     State {
         height: 0,
         taken: 0,
-        items: start(&grammar.table, &grammar.analysis),
+        items: start(grammar),
     }
 }
 

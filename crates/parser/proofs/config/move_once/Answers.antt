@@ -1,25 +1,37 @@
-use Rattle.std.proofs.Common.{◌<◌, length, refl, arith, rules}
+use Rattle.std.proofs.Common.{◌≡◌, ◌<◌, length, Some, None, Err, ok_or, sym, refl, ap, ◌∙◌, arith, rules}
+use Rattle.std.proofs.lemmas.Result.{err_from_is_err_and}
+use Rattle.items.specs.declared.sets.Action.TheVariants.{Reduce, Shift}
+use Rattle.parser.specs.declared.config.Halt.TheVariants.{Stuck}
 use Rattle.parser.specs.Told.{config_of, moved_by}
 use Rattle.parser.proofs.ToldMoves.{told_as, moved_reduce, moved_shift, moved_stuck}
 use Rattle.parser.proofs.config.move_once.Goals as goal
 
+pub returns-in_err-rule : goal.returns-in_err-rule
+unfolding moved_by
+returns-in_err-rule c g s =
+    let here = config_of c.args.stack.now c.args.state.now in
+    let none : c.action_at.result ≡ None = c.in_err-rule.ensures.ok_part in
+    let p = err_from_is_err_and c.from_residual.result c.from_residual.ensures.1 in
+    let stuck = c.in_err-rule.ensures.value ∙ ap (λ o. ok_or o Stuck) none in
+    let why : c.in_err-rule.field-0.0 ≡ Stuck = cc in
+    let told : c.from_residual.result ≡ Err Stuck = p.1 ∙ ap Err (p.2 ∙ why) in
+    record {
+      is = moved_stuck g c.args.text.now here c.lookahead-sign.result c.lookahead-sign.ensures (sym none ∙ c.action_at.ensures g s.shows)
+          ∙ ap (λ r. moved_by r here) (sym told);
+      kept = λ _. refl;
+    }
+
 pub returns-in-Reduce : goal.returns-in-Reduce
 returns-in-Reduce c g s =
+    let is : c.action_at.result ≡ Some (Reduce c.in-Reduce.rule) = c.in_ok-rule.ensures.ok_part ∙ ap Some c.in-Reduce.is in
     let act = moved_reduce g c.args.text.now (config_of c.args.stack.now c.args.state.now) c.lookahead-sign.result c.lookahead-sign.ensures
-    _ (c.in-Reduce.ensures g s.shows) in
+    _ (sym is ∙ c.action_at.ensures g s.shows) in
     told_as act.1 (search (rules, s, act.0))
 
 pub returns-in-Shift : goal.returns-in-Shift
 returns-in-Shift c g s =
+    let is : c.action_at.result ≡ Some Shift = c.in_ok-rule.ensures.ok_part ∙ ap Some c.in-Shift.is in
     let act = moved_shift g c.args.text.now (config_of c.args.stack.now c.args.state.now) c.lookahead-sign.result c.lookahead-sign.ensures
-    (c.in-Shift.ensures g s.shows) in
+    (sym is ∙ c.action_at.ensures g s.shows) in
     let most : length c.args.text.now < 18446744073709551616 = search rules in
     told_as act.1 (c.shift.ensures g s (omega (arith, act.0, most)))
-
-pub returns-in-Stuck : goal.returns-in-Stuck
-unfolding moved_by
-returns-in-Stuck c g s = record {
-  is = moved_stuck g c.args.text.now (config_of c.args.stack.now c.args.state.now) c.lookahead-sign.result c.lookahead-sign.ensures
-      (c.in-Stuck.ensures g s.shows);
-  kept = λ _. refl;
-}

@@ -22,6 +22,6 @@ unfolding moved_by
 returns c g s k = record {
   is = shift_done g (config_of c.args.stack.now c.args.state.now) c.args.sign _ _ _ _
       (ltb-true _ _ (sym c.if-not-push.ensures.room)) c.push.ensures.value (omega arith)
-      (omega (arith, c.saturating_add-state.ensures)) (c.goto-state.ensures.value g s.shows s.analysed);
+      (omega (arith, c.saturating_add-state.ensures)) (c.goto-state.ensures.value g s);
   kept = λ e. absurd (false≢true e);
 }

@@ -7,4 +7,4 @@ use Rattle.parser.proofs.run.begin.Goals as goal
 pub returns-clause-stack : goal.returns-clause-stack
 unfolding start_config
 returns-clause-stack c g s =
-    ap₂ (λ cells items. config cells 0 0 items) (ap unpacked c.zeroes.ensures ∙ unpacked_zeroes (length c.args.stack.now)) (c.start.ensures.value g s.shows s.analysed)
+    ap₂ (λ cells items. config cells 0 0 items) (ap unpacked c.zeroes.ensures ∙ unpacked_zeroes (length c.args.stack.now)) (c.start.ensures.value g s)
