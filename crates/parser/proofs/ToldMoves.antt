@@ -1,6 +1,7 @@
 -- One move as the code tells it: a push on lent words, and the move that an action stands for.
-use Rattle.std.proofs.Common.{◌≡◌, ℕ, ◌+◌, ◌*◌, ◌<◌, Bool, true, false, ltb, List, [], ◌∷◌, length, get_or, set, Some, None, Err, Result, sym, refl, ap, ◌∙◌, subst, arith}
+use Rattle.std.proofs.Common.{◌≡◌, ℕ, ◌+◌, ◌*◌, ◌<◌, Bool, true, false, ltb, List, [], ◌∷◌, length, get_or, set, Some, None, Err, Result, IsErrAnd, sym, refl, ap, ◌∙◌, subst, arith}
 use Rattle.std.proofs.lemmas.List.{set_past}
+use Rattle.std.proofs.lemmas.Result.{err_from_is_err_and}
 use Rattle.std.proofs.lemmas.Bool.{ltb-true, ltb-false}
 use Rattle.words.specs.Packed.{unpacked}
 use Rattle.words.proofs.PackedLaws.{length_unpacked}
@@ -21,14 +22,18 @@ use Rattle.parser.proofs.Steps.{reduce_at_rule, shift_at_sign, sign_ahead}
 pub room_counts : (m : List ℕ) (h : ℕ) → true ≡ ltb h (length (unpacked m)) → length m * 8 < 9223372036854775808 → h + 1 < 18446744073709551616
 room_counts m h r l = let k = ltb-true h (length (unpacked m)) (sym r) in omega (arith, length_unpacked m)
 
+-- an error that `?` hands on
+pub handed_on : {A E : Type 0} (r : Result A E) (e : E) → IsErrAnd r (λ x. x ≡ e) → r ≡ Err e
+handed_on r e h = let p = err_from_is_err_and r h in p.1 ∙ ap Err p.2
+
 -- where there is no room nothing is written
-pub told_full : (m n : List ℕ) (s : State) (x : Moved) (h b : ℕ) → false ≡ ltb h (length (unpacked m)) → unpacked n ≡ set (unpacked m) h b → x ≡ full →
-    Told x (config_of m s) (Err Full) (config_of n s)
+pub told_full : (m n : List ℕ) (s : State) (x : Moved) (h b : ℕ) (r : Result Step Halt) → r ≡ Err Full → false ≡ ltb h (length (unpacked m)) → unpacked n ≡ set (unpacked m) h b → x ≡ full →
+    Told x (config_of m s) r (config_of n s)
 unfolding moved_by
-told_full m n s x h b r w e =
+told_full m n s x h b r q l w e =
     record {
-      is = e;
-      kept = λ _. ap (λ z. config z s.height s.taken s.items.words) (w ∙ set_past (unpacked m) h b (ltb-false h (length (unpacked m)) (sym r)));
+      is = e ∙ ap (λ z. moved_by z (config_of n s)) (sym q);
+      kept = λ _. ap (λ z. config z s.height s.taken s.items.words) (w ∙ set_past (unpacked m) h b (ltb-false h (length (unpacked m)) (sym l)));
     }
 
 pub told_as : {x y : Moved} {c d : Config} {r : Result Step Halt} → x ≡ y → Told y c r d → Told x c r d

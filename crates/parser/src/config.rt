@@ -8,11 +8,12 @@ ghost use Rattle.grammar.specs.Prepared.{Describes};
 ghost use Rattle.items.specs.Sets.{goto as goto_of};
 ghost use Rattle.parser.specs.Drive.{items_of, moved, reduce_move, shift_move};
 ghost use Rattle.parser.specs.Told.{Told, config_of};
+ghost use Rattle.parser.specs.declared.config.Halt.TheVariants.{Full};
 
 use grammar::prepared::Prepared;
 use grammar::table::{FIRST_NAME, Table};
 use items::sets::{Action, END, ItemSet, action_at, goto, start};
-use words::packed::{push, read};
+use words::packed::{self, push, read};
 
 /// A configuration without the room for its stack: how many symbols stand on it, how many signs are taken, and the item set behind the stack.
 #[derive(Clone, Copy)]
@@ -106,13 +107,19 @@ pub enum Halt {
     Full,
 }
 
+impl From<packed::Full> for Halt {
+    ghost from_gives = { λ _ e. e ≡ Full };
+
+    fn from(_full: packed::Full) -> Halt {
+        Halt::Full
+    }
+}
+
 /// Shifts the sign.
 fn shift(stack: &mut [u64], state: &mut State, sign: u8, grammar: &Prepared) -> Result<Step, Halt>
     ensures { (g : Grammar) → Describes grammar.now g → state.old.taken < 2 ^ 64 - 1 → Told (shift_move g (config_of stack.old state.old) sign) (config_of stack.old state.old) result (config_of stack.new state.new) }
 {
-    if !push(stack, state.height, sign) {
-        return Err(Halt::Full);
-    }
+    push(stack, state.height, sign)?;
     state.items = goto(&state.items, grammar, sign);
     state.height += 1;
     state.taken = state.taken.saturating_add(1);
@@ -126,9 +133,7 @@ fn reduce(stack: &mut [u64], state: &mut State, rule: u8, grammar: &Prepared) ->
     let count = symbols_of(&grammar.table, rule);
     let name = name_of(&grammar.table, rule);
     let base = state.height.saturating_sub(count);
-    if !push(stack, base, name) {
-        return Err(Halt::Full);
-    }
+    push(stack, base, name)?;
     state.height = base + 1;
     state.items = items_after(&state.items, count, name, stack, base + 1, grammar);
     Ok(Step::Reduced(rule))

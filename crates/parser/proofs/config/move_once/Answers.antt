@@ -1,9 +1,8 @@
 use Rattle.std.proofs.Common.{◌≡◌, ◌<◌, length, Some, None, Err, ok_or, sym, refl, ap, ◌∙◌, arith, rules}
-use Rattle.std.proofs.lemmas.Result.{err_from_is_err_and}
 use Rattle.items.specs.declared.sets.Action.TheVariants.{Reduce, Shift}
 use Rattle.parser.specs.declared.config.Halt.TheVariants.{Stuck}
 use Rattle.parser.specs.Told.{config_of, moved_by}
-use Rattle.parser.proofs.ToldMoves.{told_as, moved_reduce, moved_shift, moved_stuck}
+use Rattle.parser.proofs.ToldMoves.{handed_on, told_as, moved_reduce, moved_shift, moved_stuck}
 use Rattle.parser.proofs.config.move_once.Goals as goal
 
 pub returns-in_err-rule : goal.returns-in_err-rule
@@ -11,10 +10,9 @@ unfolding moved_by
 returns-in_err-rule c g s =
     let here = config_of c.args.stack.now c.args.state.now in
     let none : c.action_at.result ≡ None = c.in_err-rule.ensures.ok_part in
-    let p = err_from_is_err_and c.from_residual.result c.from_residual.ensures.1 in
     let stuck = c.in_err-rule.ensures.value ∙ ap (λ o. ok_or o Stuck) none in
     let why : c.in_err-rule.field-0.0 ≡ Stuck = cc in
-    let told : c.from_residual.result ≡ Err Stuck = p.1 ∙ ap Err (p.2 ∙ why) in
+    let told : c.from_residual.result ≡ Err Stuck = handed_on _ _ c.from_residual.ensures.1 ∙ ap Err why in
     record {
       is = moved_stuck g c.args.text.now here c.lookahead-sign.result c.lookahead-sign.ensures (sym none ∙ c.action_at.ensures g s.shows)
           ∙ ap (λ r. moved_by r here) (sym told);

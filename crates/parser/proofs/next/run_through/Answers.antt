@@ -1,4 +1,4 @@
-use Rattle.std.proofs.Common.{◌≡◌, ◌+◌, ◌-◌, ◌*◌, ◌^◌, length, Ok, Err, sym, ap, ◌∙◌, ap₂}
+use Rattle.std.proofs.Common.{length, Err, sym, ap, ◌∙◌, ap₂}
 use Rattle.words.specs.Bits.{has_bit}
 use Rattle.items.specs.Actions.{acts_at}
 use Rattle.parser.specs.Drive.{followed_by, following, next_of, run_to}

@@ -1,7 +1,7 @@
-use Rattle.std.proofs.Common.{◌≡◌, Err, sym, ap, ◌∙◌}
-use Rattle.std.proofs.lemmas.Result.{err_from_is_err_and}
+use Rattle.std.proofs.Common.{sym, ap, ◌∙◌}
 use Rattle.parser.specs.Told.{config_of, halted}
 use Rattle.parser.proofs.RunLoop.{run_out, run_arrived, run_on, run_off}
+use Rattle.parser.proofs.ToldMoves.{handed_on}
 use Rattle.parser.proofs.run.run.Goals as goal
 
 pub returns-then-state-last : goal.returns-then-state-last
@@ -16,9 +16,7 @@ turn-preserved c g s =
 
 pub returns-in_err-move_once : goal.returns-in_err-move_once
 returns-in_err-move_once c g s =
-    let p = err_from_is_err_and c.from_residual.result c.from_residual.ensures.1 in
-    let z : c.from_residual.result ≡ Err c.in_err-move_once.field-0.0 = p.1 ∙ ap Err p.2 in
-    ap (λ r. halted r (config_of c.move_once.new.stack c.move_once.new.state)) z
+    ap (λ r. halted r (config_of c.move_once.new.stack c.move_once.new.state)) (handed_on _ _ c.from_residual.ensures.1)
     ∙ sym (run_off c.args.last g c.args.text.now _ _ _ (c.tick.ensures.less c.turn-test.true) _ _ c.if-state-last.false (c.move_once.ensures g s) _ c.in_err-move_once.was)
     ∙ c.turn.invariant g s
 
