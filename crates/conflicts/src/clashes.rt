@@ -7,14 +7,16 @@ ghost use Rattle.grammar.specs.Grammar.{AllUseful, Grammar};
 ghost use Rattle.grammar.specs.Places.{places};
 ghost use Rattle.grammar.specs.Prepared.{Describes};
 ghost use Rattle.grammar.specs.Table.{Shows};
-ghost use Rattle.conflicts.specs.Pairs.{advance_pair, begun_both_lem as begun_both_of, begun_own as begun_own_of, clash_among_lem as clash_among_of, clash_at as clash_at_of, clash_in_row_lem as clash_in_row_of, clash_mask as clash_mask_of, clash_of, close_pair_lem, pair as pair_of, pair_round_lem as pair_round_of, pair_step as pair_step_of, pairs, word_of as word_of_parts};
+ghost use Rattle.conflicts.specs.Pairs.{advance_pair, begun_both_lem as begun_both_of, begun_own as begun_own_of, clash_among_lem as clash_among_of, clash_at as clash_at_of, clash_in_row_lem as clash_in_row_of, clash_mask as clash_mask_of, clash_of, close_pair_lem, pair_round_lem as pair_round_of, pair_step as pair_step_of, pairs, word_of as word_of_parts};
 ghost use Rattle.conflicts.specs.PairSteps.{Found, ShownAt, Steps, StepsAt, Tells, begin_with};
 
+use crate::pair::Pair;
 use grammar::analysis::Analysis;
 use grammar::prepared::Prepared;
 use grammar::table::{COMPLETE, Table};
 use items::sets::{END, is_next};
 use words::bits;
+use words::rounds::{each_in, until_still};
 use words::rows::{at, put, zeroes};
 
 /// A clash: the rule due, the other rule or none for going on, and the sign ahead or 24 for the end.
@@ -35,66 +37,48 @@ const WORDS: usize = 36864;
 /// The first place beside itself, before the end.
 const START: u64 = 1 << 24 | 1 << 49;
 
-/// From the word of a pair to that of the two next places.
-const NEXT: usize = 193;
-
-/// Where the word of a pair stands.
-fn pair(p: usize, q: usize) -> usize
-    requires { (p < 256) × (q < 256) }
-    ensures { result ≡ pair_of p q }
-{
-    192 * p + q
-}
-
 /// Lets both go over the same symbol.
-fn advance(work: &mut [u64], table: &Table, p: usize, q: usize) -> bool
-    requires { (p < 192) × (q < 192) }
-    ensures value { ShownAt table.now p q (λ g. work.new ≡ advance_pair g p q work.old) }
+fn advance(work: &mut [u64], table: &Table, pair: Pair) -> bool
+    ensures value { ShownAt table.now pair.first pair.second (λ g. work.new ≡ advance_pair g pair.first pair.second work.old) }
     ensures grew { Grew size work.old work.new result }
 {
-    let symbol = table.symbol_at(p);
-    if symbol >= COMPLETE || symbol != table.symbol_at(q) {
+    let symbol = table.symbol_at(pair.first);
+    if symbol >= COMPLETE || symbol != table.symbol_at(pair.second) {
         return false;
     }
-    let both = pair(p, q);
-    let word = at(work, both);
-    put(work, both + NEXT, word)
+    let word = at(work, pair.index());
+    put(work, pair.next_index(), word)
 }
 
-/// Begins a rule at `p` beside `q`, and in the mirror image, if it is for the name that is next at `p`.
+/// Begins a rule at the first place beside the second, and in the mirror image, if it is for the name that is next at the first.
 fn begin_rule(
     work: &mut [u64],
     table: &Table,
-    p: usize,
-    q: usize,
+    pair: Pair,
     rule: usize,
     here: u64,
     there: u64,
 ) -> bool
-    requires { q < 192 }
-    ensures value { (g : Grammar) → Shows table.now g → p < places g → rule < length g → work.new ≡ begin_with g p q here there rule work.old }
+    ensures value { (g : Grammar) → Shows table.now g → pair.first < places g → rule < length g → work.new ≡ begin_with g pair.first pair.second here there rule work.old }
     ensures grew { Grew size work.old work.new result }
 {
-    if !is_next(table, p, rule) {
+    if !is_next(table, pair.first, rule) {
         return false;
     }
-    let first = table.first_of(rule) as usize;
-    let beside = put(work, pair(first, q), here);
-    let mirrored = put(work, pair(q, first), there);
+    let begun = Pair::new(table.first_of(rule) as usize, pair.second);
+    let beside = put(work, begun.index(), here);
+    let mirrored = put(work, begun.mirror().index(), there);
     beside || mirrored
 }
 
-/// Begins every rule of the name that is next at `p`, beside `q`.
-fn begin_rules(work: &mut [u64], table: &Table, p: usize, q: usize, here: u64, there: u64) -> bool
-    requires { q < 192 }
-    ensures value { (g : Grammar) → Shows table.now g → p < places g → work.new ≡ counted (length g) (begin_with g p q here there) work.old }
+/// Begins every rule of the name that is next at the first place, beside the second.
+fn begin_rules(work: &mut [u64], table: &Table, pair: Pair, here: u64, there: u64) -> bool
+    ensures value { (g : Grammar) → Shows table.now g → pair.first < places g → work.new ≡ counted (length g) (begin_with g pair.first pair.second here there) work.old }
     ensures grew { Grew size work.old work.new result }
 {
-    let mut changed = false;
-    'rule: for rule in 0..table.rules {
-        changed |= begin_rule(work, table, p, q, rule, here, there);
-    }
-    changed
+    each_in(work, table.rules, |work, rule| {
+        begin_rule(work, table, pair, rule, here, there)
+    })
 }
 
 /// What a rule begun at `p` can have ahead, where `p` has the word `here`.
@@ -129,37 +113,34 @@ fn word_of(own: u64, both: u64) -> u64
     own | both << SIGNS
 }
 
-/// Begins every rule of the name that is next at `p`, beside `q`, with what is ahead there.
-fn close_pair(work: &mut [u64], grammar: &Prepared, p: usize, q: usize) -> bool
-    requires { (p < 192) × (q < 192) }
-    ensures value { StepsAt grammar.now p q (λ g. close_pair_lem g p q) work.old work.new }
+/// Begins every rule of the name that is next at the first place, beside the second, with what is ahead there.
+fn close_pair(work: &mut [u64], grammar: &Prepared, pair: Pair) -> bool
+    ensures value { StepsAt grammar.now pair.first pair.second (λ g. close_pair_lem g pair.first pair.second) work.old work.new }
     ensures grew { Grew size work.old work.new result }
 {
-    let here = at(work, pair(p, q));
-    let there = at(work, pair(q, p));
-    let own = begun_own(&grammar.analysis, p, here);
-    let both = begun_both(&grammar.analysis, p, here, there);
+    let here = at(work, pair.index());
+    let there = at(work, pair.mirror().index());
+    let own = begun_own(&grammar.analysis, pair.first, here);
+    let both = begun_both(&grammar.analysis, pair.first, here, there);
     begin_rules(
         work,
         &grammar.table,
-        p,
-        q,
+        pair,
         word_of(own, both),
         word_of(bits::low(there, SIGNS), both),
     )
 }
 
 /// What a pair gives to others, if it came about at all.
-fn pair_step(work: &mut [u64], grammar: &Prepared, p: usize, q: usize) -> bool
-    requires { (p < 192) × (q < 192) }
-    ensures value { StepsAt grammar.now p q (λ g. pair_step_of g p q) work.old work.new }
+fn pair_step(work: &mut [u64], grammar: &Prepared, pair: Pair) -> bool
+    ensures value { StepsAt grammar.now pair.first pair.second (λ g. pair_step_of g pair.first pair.second) work.old work.new }
     ensures grew { Grew size work.old work.new result }
 {
-    if at(work, pair(p, q)) == 0 {
+    if at(work, pair.index()) == 0 {
         return false;
     }
-    let advanced = advance(work, &grammar.table, p, q);
-    let closed = close_pair(work, grammar, p, q);
+    let advanced = advance(work, &grammar.table, pair);
+    let closed = close_pair(work, grammar, pair);
     advanced || closed
 }
 
@@ -177,12 +158,9 @@ fn pair_row(work: &mut [u64], grammar: &Prepared, p: usize) -> bool
     ensures value { StepsAt grammar.now p p (λ g. counted (places g) (pair_step_of g p)) work.old work.new }
     ensures grew { Grew size work.old work.new result }
 {
-    let count = place_count(&grammar.table);
-    let mut changed = false;
-    'other: for q in 0..count {
-        changed |= pair_step(work, grammar, p, q);
-    }
-    changed
+    each_in(work, place_count(&grammar.table), |work, q| {
+        pair_step(work, grammar, Pair::new(p, q))
+    })
 }
 
 /// One round over all pairs; says whether it added a bit.
@@ -190,12 +168,11 @@ fn pair_round(work: &mut [u64], grammar: &Prepared) -> bool
     ensures value { Steps grammar.now pair_round_of work.old work.new }
     ensures grew { Grew size work.old work.new result }
 {
-    let count = place_count(&grammar.table);
-    let mut changed = false;
-    'place: for p in 0..count {
-        changed |= pair_row(work, grammar, p);
-    }
-    changed
+    each_in(
+        work,
+        place_count(&grammar.table),
+        |work, p| pair_row(work, grammar, p),
+    )
 }
 
 /// All pairs, by rounds until one adds nothing.
@@ -204,40 +181,38 @@ fn saturate(work: &mut [u64], grammar: &Prepared)
 {
     zeroes(work);
     put(work, 0, START);
-    'round: while pair_round(work, grammar) {}
+    until_still(work, |work| pair_round(work, grammar));
 }
 
-/// The signs ahead with which a rule complete at `p` clashes with what comes at `q`.
-fn clash_mask(work: &[u64], table: &Table, p: usize, q: usize) -> u64
-    requires { (p < 192) × (q < 192) }
-    ensures { ShownAt table.now p q (λ g. result ≡ clash_mask_of g work.now p q) }
+/// The signs ahead with which a rule complete at the first place clashes with what comes at the second.
+fn clash_mask(work: &[u64], table: &Table, pair: Pair) -> u64
+    ensures { ShownAt table.now pair.first pair.second (λ g. result ≡ clash_mask_of g work.now pair.first pair.second) }
 {
-    if table.symbol_at(p) != COMPLETE {
+    if table.symbol_at(pair.first) != COMPLETE {
         return 0;
     }
-    let word = at(work, pair(p, q));
-    let next = table.symbol_at(q);
+    let word = at(work, pair.index());
+    let next = table.symbol_at(pair.second);
     if next < END {
         return bits::low(word, SIGNS) & bits::bit(next as u64);
     }
-    if next == COMPLETE && p != q {
+    if next == COMPLETE && pair.first != pair.second {
         return word >> SIGNS;
     }
     0
 }
 
-/// The clash at `p` and `q`, with the lowest sign.
-fn clash_at(work: &[u64], table: &Table, p: usize, q: usize) -> Option<ClashFound>
-    requires { (p < 192) × (q < 192) }
-    ensures { ShownAt table.now p q (λ g. Found result (clash_at_of g work.now p q)) }
+/// The clash at a pair, with the lowest sign.
+fn clash_at(work: &[u64], table: &Table, pair: Pair) -> Option<ClashFound>
+    ensures { ShownAt table.now pair.first pair.second (λ g. Found result (clash_at_of g work.now pair.first pair.second)) }
 {
-    let mask = clash_mask(work, table, p, q);
+    let mask = clash_mask(work, table, pair);
     if mask == 0 {
         return None;
     }
-    let other = (table.symbol_at(q) == COMPLETE).then_some(table.owner_of(q));
+    let other = (table.symbol_at(pair.second) == COMPLETE).then_some(table.owner_of(pair.second));
     Some(ClashFound {
-        due: table.owner_of(p),
+        due: table.owner_of(pair.first),
         other,
         ahead: mask.trailing_zeros() as u8,
     })
@@ -248,28 +223,14 @@ fn clash_in_row(work: &[u64], table: &Table, p: usize) -> Option<ClashFound>
     requires { p < 192 }
     ensures { ShownAt table.now p p (λ g. Found result (clash_in_row_of g work.now p)) }
 {
-    let count = place_count(table);
-    'other: for q in 0..count {
-        let clash = clash_at(work, table, p, q);
-        if clash.is_some() {
-            return clash;
-        }
-    }
-    None
+    (0..place_count(table)).find_map(|q| clash_at(work, table, Pair::new(p, q)))
 }
 
 /// The first clash, in the order of places.
 fn clash_among(work: &[u64], table: &Table) -> Option<ClashFound>
     ensures { (g : Grammar) → Shows table.now g → Found result (clash_among_of g work.now) }
 {
-    let count = place_count(table);
-    'place: for p in 0..count {
-        let clash = clash_in_row(work, table, p);
-        if clash.is_some() {
-            return clash;
-        }
-    }
-    None
+    (0..place_count(table)).find_map(|p| clash_in_row(work, table, p))
 }
 
 /// The first clash of the grammar, or none; the words are 0 afterwards. Of a slice of another length it makes nothing.

@@ -2,6 +2,7 @@
 #![tactic(auto)]
 
 pub mod clashes;
+mod pair;
 
 ghost use Rattle.conflicts.specs.Statements.{ClashIsFound, ClashesAreConflicts, EnoughIsNoConflict, PairsShareAStack};
 
