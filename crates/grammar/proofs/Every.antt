@@ -1,5 +1,6 @@
 -- A loop that tests each number of a list: at the index i, the numbers from i on pass if all do.
-use Rattle.std.proofs.Common.{◌≡◌, ℕ, ◌+◌, ◌<◌, ◌≤◌, Bool, true, false, ◌&&◌, List, length, get_or, drop, sym, ap, ◌∙◌}
+use Rattle.std.proofs.Common.{◌≡◌, ℕ, ◌+◌, ◌<◌, ◌≤◌, Bool, true, false, ◌&&◌, List, [], ◌∷◌, length, get_or, drop, sym, refl, ap, ◌∙◌}
+use Rattle.std.specs.List.{list_all}
 use Rattle.std.proofs.lemmas.List.{drop_more, drop_all}
 use Rattle.grammar.specs.Grammar.{every}
 
@@ -19,3 +20,9 @@ upto_stop f xs i h t u = sym (every_more f xs i h ∙ ap (λ b. b && every f (dr
 pub upto_all : (f : ℕ → Bool) (xs : List ℕ) (i : ℕ) → length xs ≤ i → Upto f xs i → true ≡ every f xs
 unfolding every
 upto_all f xs i h u = sym (ap (every f) (drop_all i xs h)) ∙ u
+
+-- and a chain that does
+pub every_all : (f : ℕ → Bool) (xs : List ℕ) → list_all f xs ≡ every f xs
+unfolding every
+every_all f [] = refl
+every_all f (x ∷ xs) = rw (every_all f xs)

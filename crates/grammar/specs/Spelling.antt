@@ -34,6 +34,10 @@ grammar_of [] = []
 grammar_of (n ∷ bs) = rules_of n bs
 
 -- AND WHETHER BYTES ARE THE SPELLING OF THAT
+-- a byte of a symbol: a sign, or a name
+abbrev pub symbol_ok : ℕ → Bool
+symbol_ok b = pick (nat_lt b 24) true (nat_le 32 b && nat_lt b 64)
+
 -- a byte of a right side: a sign, or a name but the beginning's
 abbrev pub byte_ok : ℕ → Bool
 byte_ok b = pick (nat_lt b 24) true (nat_le 33 b && nat_lt b 64)

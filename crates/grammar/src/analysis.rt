@@ -14,6 +14,7 @@ use std::array;
 use crate::rows::{row_names, row_opening, row_produces, row_vanishes};
 use crate::table::{COMPLETE, Table};
 use words::bits;
+use words::rounds::{each_in, until_still};
 use words::rows::put;
 
 /// An analysis that marks names, a bit each.
@@ -118,18 +119,14 @@ fn first_round(table: &Table, nullable: u64, firsts: &mut [u64]) -> bool
     ensures value { OfGrammar table.now (λ g. first_of_rules g nullable firsts.old) firsts.new }
     ensures grew { Grew size firsts.old firsts.new result }
 {
-    let mut changed = false;
-    for rule in 0..table.rules {
-        changed |= first_rule(table, nullable, rule, firsts);
-    }
-    changed
+    each_in(firsts, table.rules, |firsts, rule| first_rule(table, nullable, rule, firsts))
 }
 
 /// Rounds until one adds nothing.
 fn first_rounds(table: &Table, nullable: u64, firsts: &mut [u64])
     ensures { OfGrammar table.now (λ g. iter (64 * length firsts.old) (first_of_rules g nullable) firsts.old) firsts.new }
 {
-    'round: while first_round(table, nullable, firsts) {}
+    until_still(firsts, |firsts| first_round(table, nullable, firsts));
 }
 
 /// FIRST: the signs that each name can begin with, if these names can vanish.

@@ -1,27 +1,34 @@
 // Whether bytes spell a grammar: how many rules, then for each its name, how many symbols are on its right side, and these.
 ghost use Rattle.std.specs.Prelude.{◌≡◌};
 ghost use Rattle.grammar.specs.Grammar.{every};
-ghost use Rattle.grammar.specs.Spelling.{Spells, byte_ok, first_ok, grammar_ok, head_ok, rules_ok};
+ghost use Rattle.grammar.specs.Spelling.{Spells, byte_ok, first_ok, grammar_ok, head_ok, rules_ok, symbol_ok};
+
+use crate::table::{COMPLETE, FIRST_NAME};
+
+// How many signs there are.
+const SIGNS: u8 = 24;
 
 // The symbols that all right sides together may have, less the one of the first rule.
 const ROOM: u8 = 127;
+
+/// Whether a byte is a symbol's: a sign's, or a name's.
+pub fn is_symbol(b: u8) -> bool
+    ensures { result ≡ symbol_ok b }
+{
+    b < SIGNS || (FIRST_NAME..COMPLETE).contains(&b)
+}
 
 // A byte of a right side: a sign, or a name but the beginning's.
 fn is_right(b: u8) -> bool
     ensures { result ≡ byte_ok b }
 {
-    b < 24 || (b >= 33 && b < 64)
+    is_symbol(b) && b != FIRST_NAME
 }
 
 fn all_right(bytes: &[u8]) -> bool
     ensures { result ≡ every byte_ok bytes.now }
 {
-    for b in bytes {
-        if !is_right(*b) {
-            return false;
-        }
-    }
-    true
+    bytes.iter().all(|b| is_right(*b))
 }
 
 // A later rule's first two bytes, where so many bytes are behind them and so many symbols may still come.
@@ -35,10 +42,9 @@ fn is_head(name: u8, count: u8, behind: usize, room: u8) -> bool
 fn are_rules(many: u8, few: u8, bytes: &[u8]) -> bool
     ensures { result ≡ rules_ok many few bytes.now }
 {
-    let mut left = many;
     let mut room = few;
     let mut rest = bytes;
-    'rule: while left > 0 {
+    for _ in 0..many {
         let [name, count, row @ ..] = rest else {
             return false;
         };
@@ -51,7 +57,6 @@ fn are_rules(many: u8, few: u8, bytes: &[u8]) -> bool
         }
         rest = behind;
         room -= *count;
-        left -= 1;
     }
     rest.is_empty()
 }
