@@ -1,38 +1,46 @@
--- The first place with an action: none so far, or found; and the action by what is found.
-use Rattle.std.proofs.Common.{◌≡◌, ℕ, ◌+◌, ◌<◌, Bool, true, false, List, [], ◌∷◌, Some, None, Option, sym, refl, ap, arith}
+-- The first place with an action, and the action by what is found.
+use Rattle.std.proofs.Common.{◌≡◌, ℕ, ◌+◌, ◌<◌, Bool, true, false, List, [], ◌∷◌, Some, None, Option, sym, refl, ap, ◌∙◌, arith}
 use Rattle.std.specs.Bool.{then_some}
+use Rattle.std.specs.Option.{option_map}
 use Rattle.words.specs.Iter.{counted}
-use Rattle.words.proofs.Fixpoint.{counted_then, counted_stays}
+use Rattle.words.proofs.Fixpoint.{counted_still, counted_stays, counted_then}
 use Rattle.grammar.specs.Grammar.{pick, none_of, Grammar}
 use Rattle.grammar.specs.Places.{places, owner}
 use Rattle.grammar.proofs.Lists.{never}
 use Rattle.items.specs.Sets.{reduce_place, reduce_at, shift_place, shift_at}
 use Rattle.items.specs.Actions.{reduces_place, shifts_place, first_rule_lem, action_of}
+use Rattle.items.proofs.Below.{AnyBelow, FirstBelow}
 use Rattle.items.specs.declared.sets.Action.TheVariants.{Reduce, Shift}
 
-module _ (g : Grammar) (s : List ℕ) (t p : ℕ) where
-  pub reduce_more : counted p (reduce_place g s t) [] ≡ [] → false ≡ reduces_place g s t p → counted (p + 1) (reduce_place g s t) [] ≡ []
+module _ (g : Grammar) (s : List ℕ) (t : ℕ) where
+  reduce_none : (n : ℕ) → ((k : ℕ) → k < n → false ≡ reduces_place g s t k) → counted n (reduce_place g s t) [] ≡ []
   unfolding none_of
-  reduce_more e d = sym (counted_then (reduce_place g s t) p [] [] [] (sym e) (ap (λ b. pick b (owner g p ∷ []) []) d))
+  reduce_none n misses = counted_still (reduce_place g s t) n [] (λ k l. ap (λ b. pick b (owner g k ∷ []) []) (sym (misses k l)))
 
-  pub reduce_found : counted p (reduce_place g s t) [] ≡ [] → true ≡ reduces_place g s t p → p < places g → owner g p ∷ [] ≡ reduce_at g s t
+  reduce_found : (p : ℕ) → ((k : ℕ) → k < p → false ≡ reduces_place g s t k) → true ≡ reduces_place g s t p → p < places g → owner g p ∷ [] ≡ reduce_at g s t
   unfolding none_of reduce_at
-  reduce_found e d h =
+  reduce_found p misses d h =
       sym (counted_stays (reduce_place g s t) [] (owner g p ∷ []) (λ k. refl) (p + 1) (places g) (omega arith)
-      (sym (counted_then (reduce_place g s t) p [] [] (owner g p ∷ []) (sym e) (ap (λ b. pick b (owner g p ∷ []) []) d))))
+      (sym (counted_then (reduce_place g s t) p [] [] (owner g p ∷ []) (sym (reduce_none p misses)) (ap (λ b. pick b (owner g p ∷ []) []) d))))
 
-  pub shift_more : counted p (shift_place g s t) false ≡ false → false ≡ shifts_place g s t p → counted (p + 1) (shift_place g s t) false ≡ false
-  shift_more e d = sym (counted_then (shift_place g s t) p false false false (sym e) (ap (λ b. pick b true false) d))
+  -- the first complete place that has the sign ahead, and its rule
+  pub reduce_first : (rule_at : ℕ → ℕ) → ((p : ℕ) → p < places g → rule_at p ≡ owner g p) → (r : Option ℕ) → FirstBelow (places g) (reduces_place g s t) r →
+      option_map rule_at r ≡ first_rule_lem (reduce_at g s t)
+  unfolding first_rule_lem reduce_at
+  reduce_first rule_at own None m = ap first_rule_lem (sym (reduce_none (places g) m))
+  reduce_first rule_at own (Some p) m = ap Some (own p m.0) ∙ ap first_rule_lem (reduce_found p m.2 m.1 m.0)
 
-  pub shift_found : counted p (shift_place g s t) false ≡ false → true ≡ shifts_place g s t p → p < places g → true ≡ shift_at g s t
+  pub shift_any : (r : Bool) → AnyBelow (places g) (shifts_place g s t) r → r ≡ shift_at g s t
   unfolding shift_at
-  shift_found e d h =
-      sym (counted_stays (shift_place g s t) false true (λ k. always _) (p + 1) (places g) (omega arith)
-      (sym (counted_then (shift_place g s t) p false false true (sym e) (ap (λ b. pick b true false) d))))
+  shift_any true m =
+      let found : true ≡ counted (m.0 + 1) (shift_place g s t) false =
+      counted_then (shift_place g s t) m.0 false _ true refl (ap (λ b. pick b true (counted m.0 (shift_place g s t) false)) m.2) in
+      sym (counted_stays (shift_place g s t) false true (λ k. always _) (m.0 + 1) (places g) (omega (arith, m.1)) (sym found))
     where
       always : (b : Bool) → pick b true true ≡ true
       always true = refl
       always false = refl
+  shift_any false m = sym (counted_still (shift_place g s t) (places g) false (λ k l. ap (λ b. pick b true false) (sym (m k l))))
 
 -- ---- by what is found
 

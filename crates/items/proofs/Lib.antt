@@ -17,3 +17,4 @@ pub mod Codes
 pub mod Actions
 pub mod Expected
 pub mod BehindStacks
+pub mod Below

@@ -18,9 +18,11 @@ use grammar::analysis::Analysis;
 use grammar::prepared::Prepared;
 use grammar::table::{COMPLETE, FIRST_NAME, Table};
 use words::bits::{bit, test};
+use words::rounds::{each_in, until_still};
 use words::rows::{at, put};
 
 /// What is ahead where no sign is: the end of the text.
+// a number and no Option, since lookaheads are the bits of a word, and the end is bit 24
 pub const END: u8 = 24;
 
 /// An item set: for each place of the grammar the lookaheads with which it is there, a bit each.
@@ -33,7 +35,7 @@ pub struct ItemSet {
 pub fn is_next(table: &Table, place: usize, rule: usize) -> bool
     ensures { (g : Grammar) → Shows table.now g → place < places g → rule < length g → result ≡ begins_with (rule_of g rule).left (rest g place) }
 {
-    table.symbol_at(place) as u64 == FIRST_NAME as u64 + table.left_of(rule) as u64
+    u64::from(table.symbol_at(place)) == u64::from(FIRST_NAME) + u64::from(table.left_of(rule))
 }
 
 /// What a rule begun at a place has ahead, where the place has `here`.
@@ -53,7 +55,7 @@ fn begin(set: &mut [u64], table: &Table, place: usize, rule: usize, ahead: u64) 
     ensures grew { Grew size set.old set.new result }
 {
     if is_next(table, place, rule) {
-        put(set, table.first_of(rule) as usize, ahead)
+        put(set, usize::from(table.first_of(rule)), ahead)
     } else {
         false
     }
@@ -63,7 +65,7 @@ fn begin(set: &mut [u64], table: &Table, place: usize, rule: usize, ahead: u64) 
 fn begins_any(table: &Table, place: usize, ahead: u64) -> bool
     ensures { result ≡ (not (ahead == 0) && (nat_le 32 (symbol_in table.now place) && nat_lt (symbol_in table.now place) 64)) }
 {
-    ahead != 0 && (table.symbol_at(place) >= FIRST_NAME && table.symbol_at(place) < COMPLETE)
+    ahead != 0 && (FIRST_NAME..COMPLETE).contains(&table.symbol_at(place))
 }
 
 /// Begins every rule of the name that is next at the place.
@@ -74,11 +76,11 @@ fn begin_rules(set: &mut [u64], table: &Table, place: usize, ahead: u64) -> bool
     if !begins_any(table, place, ahead) {
         return false;
     }
-    let mut changed = false;
-    for rule in 0..table.rules {
-        changed |= begin(set, table, place, rule, ahead);
-    }
-    changed
+    each_in(
+        set,
+        table.rules,
+        |set, rule| begin(set, table, place, rule, ahead),
+    )
 }
 
 /// Begins the rules of a place, with what it has.
@@ -95,18 +97,18 @@ fn close_round(set: &mut [u64], grammar: &Prepared) -> bool
     ensures value { OfPrepared grammar.now (λ g. close_round_of g set.old) set.new }
     ensures grew { Grew size set.old set.new result }
 {
-    let mut changed = false;
-    for place in 0..grammar.table.places {
-        changed |= close_place(set, grammar, place);
-    }
-    changed
+    each_in(
+        set,
+        grammar.table.places,
+        |set, place| close_place(set, grammar, place),
+    )
 }
 
 /// Rounds until one adds nothing.
 pub fn close(set: &mut [u64], grammar: &Prepared)
     ensures { (g : Grammar) → Describes grammar.now g → length set.old ≡ 192 → set.new ≡ closure g set.old }
 {
-    'round: while close_round(set, grammar) {}
+    until_still(set, |set| close_round(set, grammar));
 }
 
 /// No items.
@@ -120,8 +122,10 @@ fn empty() -> ItemSet
 fn set_behind(words: &mut [u64], place: usize, word: u64)
     ensures { words.new ≡ set_at words.old (suc place) word }
 {
-    if place < words.len().saturating_sub(1) {
-        words[place + 1] = word;
+    // no get_mut: of a slice it leaves a proof the length alone
+    let behind = place.saturating_add(1);
+    if behind < words.len() {
+        words[behind] = word;
     }
 }
 
@@ -161,7 +165,7 @@ pub fn start(grammar: &Prepared) -> ItemSet
     ensures meaning { Starts grammar.now result.words }
 {
     let mut set = empty();
-    put(&mut set.words, 0, bit(END as u64));
+    put(&mut set.words, 0, bit(u64::from(END)));
     close(&mut set.words, grammar);
     set
 }
@@ -177,7 +181,7 @@ pub enum Action {
 fn reduces(set: &[u64], table: &Table, ahead: u8, place: usize) -> bool
     ensures { ComputedPlace table.now (λ g. reduces_place g set.now ahead) place result }
 {
-    table.symbol_at(place) == COMPLETE && test(at(set, place), ahead as u64)
+    table.symbol_at(place) == COMPLETE && test(at(set, place), u64::from(ahead))
 }
 
 /// Whether a place has the sign next, and something ahead.
@@ -191,24 +195,16 @@ fn shifts(set: &[u64], table: &Table, ahead: u8, place: usize) -> bool
 fn reduction(set: &[u64], table: &Table, ahead: u8) -> Option<u8>
     ensures { OfGrammar table.now (λ g. first_rule_lem (reduce_at g set.now ahead)) result }
 {
-    for place in 0..table.places {
-        if reduces(set, table, ahead, place) {
-            return Some(table.owner_of(place));
-        }
-    }
-    None
+    (0..table.places)
+        .find(|place| reduces(set, table, ahead, *place))
+        .map(|place| table.owner_of(place))
 }
 
 /// Whether a place has the sign next, and something ahead.
 fn can_shift(set: &[u64], table: &Table, ahead: u8) -> bool
     ensures { OfGrammar table.now (λ g. shift_at g set.now ahead) result }
 {
-    for place in 0..table.places {
-        if shifts(set, table, ahead, place) {
-            return true;
-        }
-    }
-    false
+    (0..table.places).any(|place| shifts(set, table, ahead, place))
 }
 
 /// The action before a sign, if there is one.
@@ -233,16 +229,15 @@ fn expected_at(set: &[u64], table: &Table, place: usize) -> u64
     if here == 0 || symbol >= END {
         return 0;
     }
-    bit(symbol as u64)
+    bit(u64::from(symbol))
 }
 
 /// The signs before which there is an action, a bit each.
 pub fn expected(set: &ItemSet, table: &Table) -> u64
     ensures { (g : Grammar) → Shows table.now g → (t : ℕ) → has_bit t result ≡ acts_at g set.now.words t }
 {
-    let mut signs = 0;
-    for place in 0..table.places {
-        signs |= expected_at(&set.words, table, place);
-    }
-    signs
+    (0..table.places).fold(
+        0,
+        |signs, place| signs | expected_at(&set.words, table, place),
+    )
 }

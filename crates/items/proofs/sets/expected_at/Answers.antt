@@ -1,5 +1,5 @@
 use Rattle.std.proofs.Common.{ap, ◌∙◌, ap₂, inl, inr, ⊎_elim, arith}
-use Rattle.words.specs.Bits.{has_bit}
+use Rattle.words.specs.Bits.{has_bit, bit_of}
 use Rattle.grammar.proofs.Shown.{symbol_shown}
 use Rattle.items.proofs.Expected.{Acts, acts_complete, acts_none, acts_sign}
 use Rattle.items.proofs.sets.expected_at.Goals as goal
@@ -16,5 +16,5 @@ returns-then-here-eq0 c g s h t =
 
 pub returns : goal.returns
 returns c g s h t =
-    ap (has_bit t) c.bit.ensures ∙ acts_sign _ _ t (omega arith) c.if-here-eq0.false
+    ap (has_bit t) (c.bit.ensures ∙ ap bit_of c.from.ensures) ∙ acts_sign _ _ t (omega arith) c.if-here-eq0.false
     ∙ ap₂ (λ x w. Acts x w t) (c.symbol_at-symbol.ensures ∙ symbol_shown s c.args.place h) c.at-here.ensures

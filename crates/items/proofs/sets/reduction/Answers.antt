@@ -1,27 +1,15 @@
-use Rattle.std.proofs.Common.{◌<◌, [], Some, sym, refl, ap, ◌∙◌, arith}
-use Rattle.words.specs.Iter.{counted}
+use Rattle.std.proofs.Common.{◌≡◌, slice_index, ◌∙◌, subst, rules, tests}
+use Rattle.std.specs.Option.{option_map}
 use Rattle.grammar.specs.Places.{places}
-use Rattle.items.specs.Sets.{reduce_place, reduce_at}
-use Rattle.items.specs.Actions.{first_rule_lem}
-use Rattle.items.proofs.Actions.{reduce_more, reduce_found}
+use Rattle.items.specs.Actions.{reduces_place}
+use Rattle.items.proofs.Actions.{reduce_first}
+use Rattle.items.proofs.Below.{FirstBelow, first_below}
 use Rattle.items.proofs.sets.reduction.Goals as goal
 
-pub loop-place-init : goal.loop-place-init
-unfolding counted
-loop-place-init c g s = refl
-
-pub returns-then-reduces : goal.returns-then-reduces
-unfolding first_rule_lem
-returns-then-reduces c g s =
-    let h : c.loop-place.place < places g = omega (arith, s.holds.places) in
-    ap Some (c.owner_of.ensures ∙ s.holds.owners c.loop-place.place h)
-    ∙ ap first_rule_lem (reduce_found g c.args.set.now c.args.ahead c.loop-place.place (c.loop-place.invariant g s) (c.if-reduces.ensures g s h) h)
-
-pub loop-place-preserved : goal.loop-place-preserved
-loop-place-preserved c g s =
-    reduce_more g c.args.set.now c.args.ahead c.loop-place.place (c.loop-place.invariant g s) (c.if-reduces.ensures g s (omega (arith, s.holds.places)))
-
 pub returns : goal.returns
-unfolding first_rule_lem reduce_at
 returns c g s =
-    ap first_rule_lem (sym (c.loop-place.invariant g s) ∙ ap (λ k. counted k (reduce_place g c.args.set.now c.args.ahead) []) (omega (arith, s.holds.places)))
+    let test = reduces_place g c.args.set.now c.args.ahead in
+    let first : FirstBelow (places g) test c.find.result =
+    subst (λ n. FirstBelow n test c.find.result) s.holds.places (first_below _ test _ _ _ c.find.ensures.ran (λ x b q k. search (rules, tests))) in
+    let owned : c.map.result ≡ option_map (slice_index c.args.table.now.owners) c.find.result = search (rules, tests) in
+    owned ∙ reduce_first g c.args.set.now c.args.ahead _ s.holds.owners c.find.result first
