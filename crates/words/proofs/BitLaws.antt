@@ -7,6 +7,7 @@
 --     trailing_has      the lowest bit is where the trailing zeros end
 use Rattle.std.proofs.Common.{◌≡◌, ℕ, zero, suc, ◌+◌, ◌-◌, ◌*◌, ◌/◌, ◌%◌, ◌^◌, ◌<◌, ◌≤◌, min, max, Bool, true, false, not, ◌&&◌, ◌||◌, eqb, ltb, leb, ◌⊎◌, sym, refl, ap, ◌∙◌, subst, ap₂, inl, inr, ⊎_elim, mod-eq_of_lt, mul_assoc, pow-suc, div-add-mod', div-one, add-one, one-add, arith, lit<}
 use native.Mathlib.Nat.{div-eq_of_lt, mul-mod_left, mod-le}
+use Rattle.std.proofs.Math.Bool.{xor}
 use lib.Arith.{bin_ind}
 use lib.Bits.{bit_xor, differ, xor_step, bit_and, bit_or, or_step, and_step}
 use lib.Count.{count_trailing_zeros, under}
@@ -63,11 +64,8 @@ has_and t a b =
 
 -- ---- exclusive or, and a word less a mask
 
-abbrev pub xor : Bool → Bool → Bool
-xor true b = not b
-xor false b = b
-
 differ_odd : (u v : ℕ) → (u ≡ 0) ⊎ (u ≡ 1) → (v ≡ 0) ⊎ (v ≡ 1) → (differ u v < 2) × (eqb (differ u v) 1 ≡ xor (eqb u 1) (eqb v 1))
+unfolding xor
 differ_odd u v (inl p) (inl q) = rw (p, q) (lit< tt, refl)
 differ_odd u v (inl p) (inr q) = rw (p, q) (lit< tt, refl)
 differ_odd u v (inr p) (inl q) = rw (p, q) (lit< tt, refl)
@@ -85,6 +83,7 @@ has_xor t a b =
     ∙ (differ_odd _ _ (parity (a / 2 ^ t)) (parity (b / 2 ^ t))).1
 
 xor_and : (x y : Bool) → xor x (x && y) ≡ (x && not y)
+unfolding xor
 xor_and true true = refl
 xor_and true false = refl
 xor_and false y = refl

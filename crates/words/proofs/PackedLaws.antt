@@ -1,5 +1,5 @@
 -- Bytes packed in a row of words: reading, writing, and the stack of the first of them.
---     length_unpacked, unpacked_at, unpacked_past      what is read
+--     length_unpacked, unpacked_at, unpacked_past, read_byte      what is read
 --     unpacked_set      what a write leaves
 --     stacked_push, stacked_more, stacked_drop, length_stacked      the stack after a push, below its top, after pops
 use Rattle.std.proofs.Common.{◌≡◌, ℕ, zero, suc, ◌-◌, ◌*◌, ◌/◌, ◌%◌, ◌<◌, ◌≤◌, ltb, ◌≢◌, List, ◌∷◌, length, get_or, drop, set, sym, refl, ap, ◌∙◌, ap₂, ⊎_elim, div-add-mod', arith, lit<}

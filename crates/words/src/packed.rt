@@ -19,6 +19,7 @@ pub fn write(words: &mut [u64], i: usize, byte: u8)
     ensures { unpacked words.new ≡ slice_set (unpacked words.old) i byte }
 {
     let place = i / BYTES;
+    // by index: of a row of which `get_mut` lent a word, a proof knows the length alone
     if place < words.len() {
         let mut bytes = words[place].to_le_bytes();
         bytes[i % BYTES] = byte;

@@ -11,6 +11,7 @@ pub fn put(row: &mut [u64], place: usize, mask: u64) -> bool
     let Some(&old) = row.get(place) else {
         return false;
     };
+    // by index: of a row of which `get_mut` lent a word, a proof knows the length alone
     let new = old | mask;
     row[place] = new;
     old != new
