@@ -9,5 +9,4 @@ pub mod PairSound
 pub mod PairFixpoint
 pub mod PairComplete
 pub mod Finder
-mod Closing
 mod Scanning

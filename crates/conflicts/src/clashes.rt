@@ -65,7 +65,7 @@ fn begin_rule(
     if !is_next(table, pair.first, rule) {
         return false;
     }
-    let begun = Pair::new(table.first_of(rule) as usize, pair.second);
+    let begun = Pair::new(usize::from(table.first_of(rule)), pair.second);
     let beside = put(work, begun.index(), here);
     let mirrored = put(work, begun.mirror().index(), there);
     beside || mirrored
@@ -145,6 +145,7 @@ fn pair_step(work: &mut [u64], grammar: &Prepared, pair: Pair) -> bool
 }
 
 /// How many places there are; never more than the words are made for.
+#[tactic(auto, using(grammar::proofs::Places::places_bound))]
 fn place_count(table: &Table) -> usize
     ensures value { (g : Grammar) → Shows table.now g → result ≡ places g }
     ensures fits { result ≤ 192 }
@@ -194,7 +195,7 @@ fn clash_mask(work: &[u64], table: &Table, pair: Pair) -> u64
     let word = at(work, pair.index());
     let next = table.symbol_at(pair.second);
     if next < END {
-        return bits::low(word, SIGNS) & bits::bit(next as u64);
+        return bits::low(word, SIGNS) & bits::bit(u64::from(next));
     }
     if next == COMPLETE && pair.first != pair.second {
         return word >> SIGNS;

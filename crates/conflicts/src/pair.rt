@@ -5,7 +5,7 @@ ghost use Rattle.conflicts.specs.Pairs.{pair as pair_of};
 /// From the word of a pair to that of the two next places.
 const NEXT: usize = 193;
 
-/// Two places, each a number of a byte.
+/// Two places. Each number fits a byte, so that the index of a pair's word fits a `usize`.
 #[derive(Clone, Copy)]
 pub(crate) struct Pair {
     pub first: usize,
@@ -14,6 +14,7 @@ pub(crate) struct Pair {
 }
 
 impl Pair {
+    /// The first place beside the second.
     pub fn new(first: usize, second: usize) -> Pair
         requires { (first < 256) × (second < 256) }
         ensures { (result.first ≡ first) × (result.second ≡ second) }
