@@ -1,5 +1,5 @@
 -- What a table that shows a grammar says of the symbol that is next at a place.
-use Rattle.std.proofs.Common.{◌≡◌, ℕ, ◌+◌, ◌<◌, Bool, true, false, cond, not, ◌&&◌, eqb, ltb, leb, List, [], ◌∷◌, length, get_or, sym, refl, ap, ◌∙◌, ⊎_elim, arith}
+use Rattle.std.proofs.Common.{◌≡◌, ℕ, ◌+◌, ◌<◌, Bool, true, false, not, ◌&&◌, eqb, ltb, leb, List, [], ◌∷◌, length, sym, refl, ap, ◌∙◌, ⊎_elim, arith}
 use mathlib.Core.Bool.{false≢true}
 use Rattle.std.proofs.lemmas.Bool.{and_from, and_parts, cases_eq, eq-eqb, eqb-true, le-leb, lt-ltb, ne_eqb, ltb-true}
 use Rattle.words.specs.Rows.{or_at}
@@ -9,11 +9,10 @@ use Rattle.grammar.specs.Grammar.{pick, every, Sym, sign, name, Grammar, rule, s
 use Rattle.grammar.specs.Spelling.{sym_spelled}
 use Rattle.grammar.specs.Places.{places, rest, first_place_lem, next_code}
 use Rattle.grammar.specs.Rows.{begins_with}
-use Rattle.grammar.specs.Table.{Shows, left_in}
+use Rattle.grammar.specs.Table.{Shows, symbol_in, left_in}
 use Rattle.grammar.proofs.Places.{rest_fits}
 use Rattle.grammar.proofs.Shown.{symbol_shown}
 use Rattle.grammar.proofs.Sizes.{sizes}
-use Rattle.items.specs.Code.{symbol_in}
 use Rattle.items.specs.Sets.{begin_rule}
 
 -- the byte of a row says whether it begins with a name
@@ -27,7 +26,7 @@ code_begins n (name m ∷ β) h f =
     (cases_eq n m)
 
 module _ {t : Table} {g : Grammar} (s : Shows t g) where
-  pub next_shown : (p k x y : ℕ) → p < places g → k < length g → x ≡ cond (ltb p 192) (get_or t.symbols p 0) 64 → y ≡ left_in t k →
+  pub next_shown : (p k x y : ℕ) → p < places g → k < length g → x ≡ symbol_in t p → y ≡ left_in t k →
       eqb x (32 + y) ≡ begins_with (rule g k).left (rest g p)
   next_shown p k x y h l e d =
       let a : x ≡ next_code (rest g p) = e ∙ symbol_shown s p h in
@@ -59,8 +58,8 @@ module _ {t : Table} {g : Grammar} (s : Shows t g) where
       go false z false c = refl
 
   -- whether the byte that the table has is this one
-  pub code_yes : (c p x : ℕ) → p < places g → x ≡ cond (ltb p 192) (get_or t.symbols p 0) 64 → x ≡ c → eqb (next_code (rest g p)) c ≡ true
+  pub code_yes : (c p x : ℕ) → p < places g → x ≡ symbol_in t p → x ≡ c → eqb (next_code (rest g p)) c ≡ true
   code_yes c p x h e d = eq-eqb _ _ (sym (e ∙ symbol_shown s p h) ∙ d)
 
-  pub code_no : (c p x : ℕ) → p < places g → x ≡ cond (ltb p 192) (get_or t.symbols p 0) 64 → (x ≡ c → ⊥) → eqb (next_code (rest g p)) c ≡ false
+  pub code_no : (c p x : ℕ) → p < places g → x ≡ symbol_in t p → (x ≡ c → ⊥) → eqb (next_code (rest g p)) c ≡ false
   code_no c p x h e d = ne_eqb _ _ (λ f. d (e ∙ symbol_shown s p h ∙ f))

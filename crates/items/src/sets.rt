@@ -6,10 +6,10 @@ ghost use Rattle.words.specs.Rows.{size};
 ghost use Rattle.grammar.specs.Grammar.{Grammar, rule as rule_of};
 ghost use Rattle.grammar.specs.Places.{places, rest};
 ghost use Rattle.grammar.specs.Rows.{begins_with};
-ghost use Rattle.grammar.specs.Table.{OfGrammar, Shows};
+ghost use Rattle.grammar.specs.Table.{OfGrammar, Shows, symbol_in};
 ghost use Rattle.grammar.specs.Analysed.{Analysed};
 ghost use Rattle.grammar.specs.Prepared.{Describes, OfPrepared};
-ghost use Rattle.items.specs.Code.{ComputedPlace, symbol_in};
+ghost use Rattle.items.specs.Code.{ComputedPlace};
 ghost use Rattle.items.specs.Behind.{GoesTo, Starts};
 ghost use Rattle.items.specs.Sets.{no_items, begin_rule, begun_ahead, close_place as close_place_of, close_round_lem as close_round_of, closure, advance_place_lem as advance_place_of, advanced_set, goto as goto_of, start_set, reduce_at, shift_at};
 ghost use Rattle.items.specs.Actions.{reduces_place, shifts_place, first_rule_lem, action_of, acts_at};
@@ -29,6 +29,15 @@ pub const END: u8 = 24;
 #[derive(Clone, Copy)]
 pub struct ItemSet {
     pub words: [u64; 192],
+}
+
+impl Default for ItemSet {
+    /// No items.
+    fn default() -> ItemSet
+        ensures { result.words ≡ no_items }
+    {
+        ItemSet { words: [0; 192] }
+    }
 }
 
 /// Whether a rule is for the name that is next at a place.
@@ -111,13 +120,6 @@ pub fn close(set: &mut [u64], grammar: &Prepared)
     until_still(set, |set| close_round(set, grammar));
 }
 
-/// No items.
-fn empty() -> ItemSet
-    ensures { result.words ≡ no_items }
-{
-    ItemSet { words: [0; 192] }
-}
-
 /// Sets the word behind a place, if there is one.
 fn set_behind(words: &mut [u64], place: usize, word: u64)
     ensures { words.new ≡ set_at words.old (suc place) word }
@@ -142,7 +144,7 @@ fn advance_place(next: &mut [u64], set: &[u64], table: &Table, symbol: u8, place
 pub fn advance(set: &ItemSet, table: &Table, symbol: u8) -> ItemSet
     ensures { OfGrammar table.now (λ g. advanced_set g symbol set.now.words) result.words }
 {
-    let mut next = empty();
+    let mut next = ItemSet::default();
     for place in 0..table.places {
         advance_place(&mut next.words, &set.words, table, symbol, place);
     }
@@ -164,7 +166,7 @@ pub fn start(grammar: &Prepared) -> ItemSet
     ensures value { OfPrepared grammar.now start_set result.words }
     ensures meaning { Starts grammar.now result.words }
 {
-    let mut set = empty();
+    let mut set = ItemSet::default();
     put(&mut set.words, 0, bit(u64::from(END)));
     close(&mut set.words, grammar);
     set

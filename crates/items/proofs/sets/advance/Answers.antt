@@ -6,7 +6,7 @@ use Rattle.items.proofs.sets.advance.Goals as goal
 
 pub loop-place-init : goal.loop-place-init
 unfolding counted
-loop-place-init c g s = c.empty-next.ensures
+loop-place-init c g s = c.default-next.ensures
 
 pub loop-place-preserved : goal.loop-place-preserved
 loop-place-preserved c g s =
