@@ -1,18 +1,13 @@
--- The analyses that mark names in one word, by one round for all three. Assumes nothing: these are definitions.
-use Rattle.std.specs.Prelude.{ℕ, length}
-use Rattle.words.specs.Iter.{counted}
-use Rattle.grammar.specs.declared.analysis.Marking.{Marking}
-use Rattle.grammar.specs.declared.analysis.Marking.TheVariants.{Nullable, Productive, Reachable}
-use Rattle.grammar.specs.Grammar.{Grammar}
-use Rattle.grammar.specs.Rows.{vanishing, producing}
-use Rattle.grammar.specs.Analysis.{mark_rule_lem, reach_rule}
+-- What a step that marks names in one word does at each call, which is at a rule and the marks so far. Assumes nothing: these are definitions.
+use Rattle.std.specs.Prelude.{◌≡◌, ℕ, ◌<◌, count_ones}
+use denote.Param.Members.{Shared}
+use Rattle.words.specs.Iter.{Up}
 
--- the marks after one rule
-abbrev pub marked : Marking → Grammar → ℕ → ℕ → ℕ
-marked Nullable g k M = mark_rule_lem vanishing g k M
-marked Productive g k M = mark_rule_lem producing g k M
-marked Reachable g k M = reach_rule g k M
+module _ {F : Type 0} (g : Shared F (ℕ × (ℕ × Unit {0})) ℕ) (mark : F) (rules : ℕ) where
+  -- each call at one of so many rules gives the marks, or more
+  abbrev pub MarkGrows : Type 0
+  MarkGrows = (k M r : ℕ) → k < rules → g.post mark (k, (M, tt)) r → Up count_ones M r
 
--- and after all of them
-abbrev pub marked_round : Marking → Grammar → ℕ → ℕ
-marked_round m g M = counted (length g) (marked m g) M
+  -- and gives f of them
+  abbrev pub MarkIs : (ℕ → ℕ → ℕ) → Type 0
+  MarkIs f = (k M r : ℕ) → k < rules → g.post mark (k, (M, tt)) r → r ≡ f k M

@@ -1,29 +1,21 @@
 // The analyses of a grammar: nullable, productive and reachable names and FIRST, each by rounds over the rules until nothing changes.
-ghost use Rattle.std.specs.Prelude.{◌≡◌, ◌*◌, false, length, drop, bit_or, count_ones, slice_index, slice_index_or};
-ghost use Rattle.words.specs.Iter.{Grew, Up, iter};
+ghost use Rattle.std.specs.Prelude.{◌≡◌, ℕ, ◌*◌, ◌==◌, [], ◌∷◌, length, bit_or, count_ones};
+ghost use Rattle.std.specs.Int.Count.{count_trailing_zeros};
+ghost use Rattle.words.specs.Iter.{Grew, Up, counted, iter};
 ghost use Rattle.words.specs.Rows.{size};
 ghost use Rattle.grammar.specs.Grammar.{pick};
-ghost use Rattle.grammar.specs.Analysis.{first_round as first_of_rules, first_rule_lem as first_of_rule, firsts as firsts_of, lowest as lowest_of, names_in, nullable as nullable_of, productive as productive_of, reachable as reachable_of, useless as useless_of};
+ghost use Rattle.grammar.specs.Analysis.{first_round as first_of_rules, first_rule_lem as first_of_rule, firsts as firsts_of, lowest as lowest_of, mark_rule_lem, name_rule, names_in, nullable as nullable_of, productive as productive_of, reach_rule, reachable as reachable_of, useless as useless_of};
 ghost use Rattle.grammar.specs.Analysed.{Analyses, ExactAtPlaces, IsBehind, Judges, behind_in, listed, passes_in};
-ghost use Rattle.grammar.specs.Marking.{marked, marked_round};
-ghost use Rattle.grammar.specs.Rows.{opening, vanishing};
-ghost use Rattle.grammar.specs.Table.{OfGrammar, OfRule, OfGrammarWith, ReadOff};
-
-use std::array;
+ghost use Rattle.grammar.specs.Marking.{MarkGrows, MarkIs};
+ghost use Rattle.grammar.specs.Rows.{producing, vanishing};
+ghost use Rattle.grammar.specs.Table.{OfGrammar, OfRule, OfGrammarWith};
 
 use crate::rows::{row_names, row_opening, row_produces, row_vanishes};
 use crate::table::{COMPLETE, Table};
+use std::array;
 use words::bits;
 use words::rounds::{each_in, until_still};
 use words::rows::put;
-
-/// An analysis that marks names, a bit each.
-#[derive(Clone, Copy)]
-enum Marking {
-    Nullable,
-    Productive,
-    Reachable,
-}
 
 /// The marks with more of them, if there is reason.
 fn mark_if(reason: bool, marks: u64, more: u64) -> u64
@@ -32,39 +24,61 @@ fn mark_if(reason: bool, marks: u64, more: u64) -> u64
     if reason { marks | more } else { marks }
 }
 
-/// The marks after one rule.
-fn mark_rule(marking: Marking, table: &Table, rule: usize, marks: u64) -> u64
-    ensures value { OfRule table.now (λ g k. marked marking g k marks) rule result }
+/// A rule marks its name if its row can vanish.
+fn mark_nullable(table: &Table, rule: usize, marks: u64) -> u64
+    ensures value { OfRule table.now (λ g k. mark_rule_lem vanishing g k marks) rule result }
     ensures grew { Up count_ones marks result }
 {
-    let name = table.left_of(rule) as u64;
-    let first = table.first_of(rule) as usize;
-    match marking {
-        Marking::Nullable => mark_if(row_vanishes(table, first, marks), marks, bits::bit(name)),
-        Marking::Productive => mark_if(row_produces(table, first, marks), marks, bits::bit(name)),
-        Marking::Reachable => mark_if(bits::test(marks, name), marks, row_names(table, first)),
-    }
+    let vanishes = row_vanishes(table, table.first_of(rule) as usize, marks);
+    mark_if(vanishes, marks, bits::bit(table.left_of(rule) as u64))
 }
 
-/// The marks after one round over the rules.
-fn mark_round(marking: Marking, table: &Table, marks: u64) -> u64
-    ensures value { OfGrammar table.now (λ g. marked_round marking g marks) result }
+/// A rule marks its name if its row comes to signs.
+fn mark_productive(table: &Table, rule: usize, marks: u64) -> u64
+    ensures value { OfRule table.now (λ g k. mark_rule_lem producing g k marks) rule result }
     ensures grew { Up count_ones marks result }
 {
+    let produces = row_produces(table, table.first_of(rule) as usize, marks);
+    mark_if(produces, marks, bits::bit(table.left_of(rule) as u64))
+}
+
+/// A rule of a name that is marked marks the names of its row.
+fn mark_reachable(table: &Table, rule: usize, marks: u64) -> u64
+    ensures value { OfRule table.now (λ g k. reach_rule g k marks) rule result }
+    ensures grew { Up count_ones marks result }
+{
+    let reached = bits::test(marks, table.left_of(rule) as u64);
+    mark_if(
+        reached,
+        marks,
+        row_names(table, table.first_of(rule) as usize),
+    )
+}
+
+/// The marks after one round over so many rules.
+fn mark_round<F: Fn(usize, u64) -> u64>(rules: usize, marks: u64, mark: &F) -> u64
+    requires callable { F.IsAlwaysCallable mark.now }
+    requires grows { MarkGrows F.Fn mark.now rules }
+    ensures grew { Up count_ones marks result }
+    ensures value { (f : ℕ → ℕ → ℕ) → MarkIs F.Fn mark.now rules f → result ≡ counted rules f marks }
+{
     let mut after = marks;
-    for rule in 0..table.rules {
-        after = mark_rule(marking, table, rule, after);
+    for rule in 0..rules {
+        after = mark(rule, after);
     }
     after
 }
 
-/// The marks after enough rounds.
-fn mark_all(marking: Marking, table: &Table, start: u64) -> u64
-    ensures { OfGrammar table.now (λ g. iter 64 (marked_round marking g) start) result }
+/// The marks after rounds until one adds nothing.
+// Not by `until_still`, which changes a row in place: marks are one number, and a round gives the next.
+fn mark_all<F: Fn(usize, u64) -> u64>(rules: usize, start: u64, mark: F) -> u64
+    requires callable { F.IsAlwaysCallable mark }
+    requires grows { MarkGrows F.Fn mark rules }
+    ensures { (f : ℕ → ℕ → ℕ) → MarkIs F.Fn mark rules f → result ≡ iter 64 (counted rules f) start }
 {
     let mut marks = start;
     'round: loop {
-        let next = mark_round(marking, table, marks);
+        let next = mark_round(rules, marks, &mark);
         if next == marks {
             return marks;
         }
@@ -76,33 +90,54 @@ fn mark_all(marking: Marking, table: &Table, start: u64) -> u64
 pub fn nullable(table: &Table) -> u64
     ensures { OfGrammar table.now nullable_of result }
 {
-    mark_all(Marking::Nullable, table, 0)
+    mark_all(
+        table.rules,
+        0,
+        |rule, marks| mark_nullable(table, rule, marks),
+    )
 }
 
 /// The names of which signs come.
 pub fn productive(table: &Table) -> u64
     ensures { OfGrammar table.now productive_of result }
 {
-    mark_all(Marking::Productive, table, 0)
+    mark_all(
+        table.rules,
+        0,
+        |rule, marks| mark_productive(table, rule, marks),
+    )
 }
 
 /// The names that are reached from the beginning, which is name 0.
 pub fn reachable(table: &Table) -> u64
     ensures { OfGrammar table.now reachable_of result }
 {
-    mark_all(Marking::Reachable, table, 1)
+    let beginning = bits::bit(0);
+    mark_all(
+        table.rules,
+        beginning,
+        |rule, marks| mark_reachable(table, rule, marks),
+    )
+}
+
+/// A rule names its own name and those of its row.
+fn mark_named(table: &Table, rule: usize, names: u64) -> u64
+    ensures value { OfRule table.now (λ g k. name_rule g k names) rule result }
+    ensures grew { Up count_ones names result }
+{
+    let left = bits::bit(table.left_of(rule) as u64);
+    names | (left | row_names(table, table.first_of(rule) as usize))
 }
 
 /// The names that stand in the grammar.
 pub fn names_in(table: &Table) -> u64
     ensures { OfGrammar table.now names_in result }
 {
-    let mut names = 0;
-    for rule in 0..table.rules {
-        let left = bits::bit(table.left_of(rule) as u64);
-        names |= left | row_names(table, table.first_of(rule) as usize);
-    }
-    names
+    mark_round(
+        table.rules,
+        0,
+        &|rule, names| mark_named(table, rule, names),
+    )
 }
 
 /// Puts what one rule adds into FIRST, and says whether that added a sign.
@@ -119,7 +154,11 @@ fn first_round(table: &Table, nullable: u64, firsts: &mut [u64]) -> bool
     ensures value { OfGrammar table.now (λ g. first_of_rules g nullable firsts.old) firsts.new }
     ensures grew { Grew size firsts.old firsts.new result }
 {
-    each_in(firsts, table.rules, |firsts, rule| first_rule(table, nullable, rule, firsts))
+    each_in(
+        firsts,
+        table.rules,
+        |firsts, rule| first_rule(table, nullable, rule, firsts),
+    )
 }
 
 /// Rounds until one adds nothing.
@@ -194,17 +233,18 @@ pub fn analyse(table: &Table) -> Analysis
     Analysis { places }
 }
 
+/// The lowest name that is marked.
+fn lowest_name(names: u64) -> Option<u8>
+    ensures { listed result ≡ pick (names == 0) [] (count_trailing_zeros 64 names ∷ []) }
+{
+    (names != 0).then(|| names.trailing_zeros() as u8)
+}
+
 /// The lowest of the names of which nothing comes; if there are none, the lowest of those that are not reached.
 fn lowest(unproductive: u64, unreachable: u64) -> Option<u8>
     ensures { listed result ≡ lowest_of unproductive unreachable }
 {
-    if unproductive != 0 {
-        Some(unproductive.trailing_zeros() as u8)
-    } else if unreachable != 0 {
-        Some(unreachable.trailing_zeros() as u8)
-    } else {
-        None
-    }
+    lowest_name(unproductive).or(lowest_name(unreachable))
 }
 
 /// A name of no use, of which nothing comes or which is not reached; none if every name is of use.

@@ -19,7 +19,10 @@ fn can_vanish(code: u8, nullable: u64) -> bool
 pub fn row_vanishes(table: &Table, from: usize, nullable: u64) -> bool
     ensures { ReadOff table.now (vanishing nullable) from result }
 {
-    table.row_at(from).iter().all(|code| can_vanish(*code, nullable))
+    table
+        .row_at(from)
+        .iter()
+        .all(|code| can_vanish(*code, nullable))
 }
 
 /// Whether a symbol comes to signs, if these names do.
@@ -33,7 +36,10 @@ fn comes_to_signs(code: u8, productive: u64) -> bool
 pub fn row_produces(table: &Table, from: usize, productive: u64) -> bool
     ensures { ReadOff table.now (producing productive) from result }
 {
-    table.row_at(from).iter().all(|code| comes_to_signs(*code, productive))
+    table
+        .row_at(from)
+        .iter()
+        .all(|code| comes_to_signs(*code, productive))
 }
 
 /// The signs that the row that comes at a place can begin with, if these names can vanish and each name can begin with these signs.
@@ -70,5 +76,8 @@ fn name_mark(code: u8) -> u64
 pub fn row_names(table: &Table, from: usize) -> u64
     ensures { ReadOff table.now named from result }
 {
-    table.row_at(from).iter().fold(0, |names, code| names | name_mark(*code))
+    table
+        .row_at(from)
+        .iter()
+        .fold(0, |names, code| names | name_mark(*code))
 }

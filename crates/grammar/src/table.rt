@@ -5,6 +5,7 @@ ghost use Rattle.grammar.specs.Table.{Added, Answers, Holds, NumberOf, PlaceOf, 
 
 use crate::spelling::is_grammar;
 
+// Symbols stay the bytes of the spelling, so that a row is copied from it in one piece.
 /// What stands at the place behind the last symbol of a rule.
 pub const COMPLETE: u8 = 64;
 
@@ -14,6 +15,7 @@ pub const FIRST_NAME: u8 = 32;
 /// A grammar, by its rules and its places.
 #[derive(Clone, Copy)]
 pub struct Table {
+    // There is no heap, so the arrays have room for the largest grammar, and these say how much is in use.
     /// How many rules.
     pub rules: usize,
     /// How many places.

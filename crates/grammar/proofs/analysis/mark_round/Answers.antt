@@ -1,24 +1,15 @@
-use Rattle.std.proofs.Common.{◌<◌, length, sym, refl, ap, ◌∙◌, inl, arith}
+use Rattle.std.proofs.Common.{refl, inl}
 use lib.Count.{ones}
 use Rattle.words.specs.Iter.{counted}
-use Rattle.words.proofs.Fixpoint.{counted_more, up_then}
-use Rattle.grammar.specs.Marking.{marked}
+use Rattle.words.proofs.Fixpoint.{counted_then, up_then}
 use Rattle.grammar.proofs.analysis.mark_round.Goals as goal
 
 pub loop-rule-init : goal.loop-rule-init
 unfolding counted
-loop-rule-init c = (λ g s. refl, inl refl)
+loop-rule-init g c = (inl refl, λ f h. refl)
 
 pub loop-rule-preserved : goal.loop-rule-preserved
-loop-rule-preserved c = (
-  λ g s. let h : c.loop-rule.rule < length g = omega (arith, s.holds.rules) in
-      c.mark_rule-after.ensures.value g s h ∙ ap (marked c.args.marking g c.loop-rule.rule) (c.loop-rule.invariant.0 g s)
-      ∙ sym (counted_more (marked c.args.marking g) c.loop-rule.rule c.args.marks),
-  up_then ones c.args.marks c.loop-rule.after _ c.loop-rule.invariant.1 c.mark_rule-after.ensures.grew,
+loop-rule-preserved g c = (
+  up_then ones c.args.marks c.loop-rule.after _ c.loop-rule.invariant.0 (c.requires.grows _ _ _ c.loop-rule-test.true c.mark-after.ensures),
+  λ f h. counted_then f c.loop-rule.rule _ _ _ (c.loop-rule.invariant.1 f h) (h _ _ _ c.loop-rule-test.true c.mark-after.ensures),
 )
-
-pub returns : goal.returns
-returns c = record {
-  value = λ g s. c.loop-rule.invariant.0 g s ∙ ap (λ k. counted k (marked c.args.marking g) c.args.marks) (omega (arith, s.holds.rules));
-  grew = c.loop-rule.invariant.1;
-}
