@@ -28,6 +28,12 @@ unfolding first_place_lem places
 first_place_all [] = refl
 first_place_all (r ∷ rs) = ap (λ n. suc (length r.right) + n) (first_place_all rs)
 
+-- the item set behind one symbol more
+pub items_more : (g : Grammar) (cells : List ℕ) (k : ℕ) {s r : List ℕ} → r ≡ goto g (get_or cells k 0) s → s ≡ items_of g (stacked k cells) →
+    r ≡ items_of g (stacked (k + 1) cells)
+unfolding items_of stacked
+items_more g cells k e d = e ∙ ap (goto g (get_or cells k 0)) d ∙ ap (λ n. items_of g (stacked n cells)) (let z : suc k ≡ k + 1 = omega arith in z)
+
 -- ---- what an action says
 
 module _ (g : Grammar) (s : List ℕ) (t : ℕ) where

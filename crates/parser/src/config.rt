@@ -37,11 +37,9 @@ pub fn lookahead(text: &[u8], taken: usize) -> u8
 pub fn items_behind(stack: &[u64], height: usize, grammar: &Prepared) -> ItemSet
     ensures { (g : Grammar) → Describes grammar.now g → result.words ≡ items_of g (stacked height (unpacked stack.now)) }
 {
-    let mut items = start(grammar);
-    for at in 0..height {
-        items = goto(&items, grammar, read(stack, at));
-    }
-    items
+    (0..height).fold(start(grammar), |items, at| {
+        goto(&items, grammar, read(stack, at))
+    })
 }
 
 /// The place where a rule begins; behind the last rule, where there would be one more.

@@ -1,19 +1,13 @@
-use Rattle.std.proofs.Common.{◌≡◌, suc, ◌+◌, ap, ◌∙◌, ap₂, arith}
+use Rattle.std.proofs.Common.{◌≡◌, refl, rules, tests}
 use Rattle.words.specs.Packed.{stacked, unpacked}
-use Rattle.items.specs.Sets.{goto}
+use Rattle.items.proofs.Below.{fold_below}
+use Rattle.items.specs.declared.sets.ItemSet.{ItemSet}
 use Rattle.parser.specs.Drive.{items_of}
+use Rattle.parser.proofs.Steps.{items_more}
 use Rattle.parser.proofs.config.items_behind.Goals as goal
 
-pub loop-at-init : goal.loop-at-init
-unfolding items_of stacked
-loop-at-init c g s = c.start-items.ensures.value g s
-
-pub loop-at-preserved : goal.loop-at-preserved
-unfolding items_of stacked
-loop-at-preserved c g s =
-    let e : suc c.loop-at.at ≡ c.loop-at.at + 1 = omega arith in
-    c.goto-items.ensures.value g s ∙ ap₂ (goto g) c.read.ensures (c.loop-at.invariant g s)
-    ∙ ap (λ n. items_of g (stacked n (unpacked c.args.stack.now))) e
-
 pub returns : goal.returns
-returns c g s = c.loop-at.invariant g s ∙ ap (λ n. items_of g (stacked n (unpacked c.args.stack.now))) (omega arith)
+unfolding items_of stacked
+returns c g s =
+    fold_below c.args.height (λ k (items : ItemSet). items.words ≡ items_of g (stacked k (unpacked c.args.stack.now))) _ _ _ c.fold.ensures.ran
+    (c.start.ensures.value g s) (λ a x b q k. (search (rules, tests), λ l e. items_more g (unpacked c.args.stack.now) x (search (rules, tests, s)) e))
