@@ -37,6 +37,7 @@ fn clear(stack: &mut [u64], state: &mut State)
 }
 
 /// On to the next rule that is reduced; if there is none, nothing is left of the configuration.
+#[tactic(auto, unfolding(crate::specs::Told::advanced_by))]
 pub fn advance(stack: &mut [u64], state: &mut State, text: &[u8], grammar: &Prepared) -> Option<u8>
     ensures rule { (g : Grammar) → Describes grammar.now g → advance_of g text.now (config_of stack.old state.old) ≡ advanced_by result (config_of stack.new state.new) }
     ensures cleared { result ≡ None → Cleared (length stack.old) stack.new state.new }

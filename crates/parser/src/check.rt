@@ -31,6 +31,7 @@ fn is_read(stack: &[u64], state: &State, text: &[u8]) -> bool
 }
 
 /// The ending where there is no move.
+#[tactic(auto, unfolding(crate::specs::Told::ended, crate::specs::Drive::ending))]
 fn end_at(stack: &[u64], state: &State, text: &[u8]) -> Result<(), Unread>
     ensures { ended result ≡ ending_of text.now (config_of stack.now state.now) }
 {
@@ -60,6 +61,7 @@ fn read_through(
 }
 
 /// Whether the text is read, or where it is wrong: `fuel` words for the number of moves, the rest for the stack. The work is cleared.
+#[tactic(auto, unfolding(crate::specs::Told::ended))]
 pub fn check(work: &mut [u64], fuel: usize, text: &[u8], grammar: &Prepared) -> Result<(), Unread>
     ensures value { fuel ≤ length work.old → (g : Grammar) → Describes grammar.now g → ended result ≡ check_of g text.now (8 * (length work.old - fuel)) (2 ^ (64 * fuel) - 1) }
     ensures cleared { fuel ≤ length work.old → work.new ≡ replicate (length work.old) 0 }

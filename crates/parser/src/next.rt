@@ -32,6 +32,7 @@ fn run_through(
 
 /// By which signs a text may go on, a bit each (bit 24 is the end), or where it is wrong before its end: `fuel` words for the number of moves, the rest for the
 /// stack. The work is cleared.
+#[tactic(auto, unfolding(crate::specs::Told::followed))]
 pub fn next_signs(
     work: &mut [u64],
     fuel: usize,

@@ -1,11 +1,6 @@
-use Rattle.std.proofs.Common.{refl, arith}
-use Rattle.parser.specs.Told.{ended}
+use Rattle.std.proofs.Common.{arith}
 use Rattle.parser.proofs.DriveTheorems.{checked_so}
 use Rattle.parser.proofs.check.check.Goals as goal
-
-pub returns-in_default-clause-refused : goal.returns-in_default-clause-refused
-unfolding ended
-returns-in_default-clause-refused c l = (refl, refl)
 
 pub returns-clause-meaning : goal.returns-clause-meaning
 returns-clause-meaning c g s u h f l room moves =

@@ -3,9 +3,6 @@ use Rattle.grammar.specs.Places.{first_place_lem}
 use Rattle.parser.proofs.Steps.{first_place_all}
 use Rattle.parser.proofs.config.first_place.Goals as goal
 
-pub returns-then-rule-table : goal.returns-then-rule-table
-returns-then-rule-table c g s l = c.from.ensures ∙ c.first_of.ensures ∙ s.holds.firsts c.args.rule (omega (arith, s.holds.rules))
-
 pub returns-else-rule-table : goal.returns-else-rule-table
 returns-else-rule-table c g s l =
     let last : length g ≡ c.args.rule = omega (arith, s.holds.rules) in

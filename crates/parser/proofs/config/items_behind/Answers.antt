@@ -1,4 +1,4 @@
-use Rattle.std.proofs.Common.{◌≡◌, refl, rules, tests}
+use Rattle.std.proofs.Common.{◌≡◌, rules, tests}
 use Rattle.words.specs.Packed.{stacked, unpacked}
 use Rattle.items.proofs.Below.{fold_below}
 use Rattle.items.specs.declared.sets.ItemSet.{ItemSet}

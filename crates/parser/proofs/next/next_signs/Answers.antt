@@ -1,11 +1,6 @@
-use Rattle.std.proofs.Common.{refl, arith}
-use Rattle.parser.specs.Told.{followed}
+use Rattle.std.proofs.Common.{arith}
 use Rattle.parser.proofs.DriveTheorems.{goes_on_so}
 use Rattle.parser.proofs.next.next_signs.Goals as goal
-
-pub returns-in_default-clause-refused : goal.returns-in_default-clause-refused
-unfolding followed
-returns-in_default-clause-refused c l = (refl, refl)
 
 pub returns-clause-meaning : goal.returns-clause-meaning
 returns-clause-meaning c g s u h f l room moves =
