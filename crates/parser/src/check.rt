@@ -38,11 +38,12 @@ fn end_at(stack: &[u64], state: &State, text: &[u8]) -> Result<(), Unread>
     if is_read(stack, state, text) {
         Ok(())
     } else {
+        // a `usize` has no `From` into a `u64`
         Err(Unread::Wrong(state.taken as u64))
     }
 }
 
-/// Runs from the empty stack while there are moves: more signs than there are are never taken.
+/// Runs from the empty stack while there are moves, and reads off how it ends.
 fn read_through(
     moves: &mut [u64],
     stack: &mut [u64],
@@ -51,11 +52,12 @@ fn read_through(
 ) -> Result<(), Unread>
     ensures { (g : Grammar) → Describes grammar.now g → ended result ≡ check_of g text.now (8 * length stack.old) (2 ^ (64 * length moves.old) - 1) }
 {
+    // `next::run_through` begins so too: of a pair of state and halt, given back by one function, the arms of the match do not learn what it ensures
     let mut state = begin(moves, stack, grammar);
     match run(moves, stack, &mut state, text.len() + 1, text, grammar) {
         Err(Halt::Stuck) => end_at(stack, &state, text),
         Err(Halt::Full) => Err(Unread::GaveOut),
-        // never: more signs than there are are not taken
+        // never, as more signs are not taken than there are
         Ok(()) => Err(Unread::GaveOut),
     }
 }
@@ -68,6 +70,7 @@ pub fn check(work: &mut [u64], fuel: usize, text: &[u8], grammar: &Prepared) -> 
     ensures refused { length work.old < fuel → (ended result ≡ gave_out) × (work.new ≡ work.old) }
     ensures meaning { Checks grammar.now (length work.old) fuel text.now result }
 {
+    // `next_signs` lends and clears so too: a function of a closure over both slices is longer than these lines
     let Some((moves, stack)) = work.split_at_mut_checked(fuel) else {
         return Err(Unread::GaveOut);
     };

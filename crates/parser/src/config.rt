@@ -16,6 +16,7 @@ use items::sets::{Action, END, ItemSet, action_at, goto, start};
 use words::packed::{self, push, read};
 
 /// A configuration without the room for its stack: how many symbols stand on it, how many signs are taken, and the item set behind the stack.
+// not one struct with the stack: a caller lends words of its memory for one call, and keeps the three fields in words of their own
 #[derive(Clone, Copy)]
 pub struct State {
     pub height: usize,
