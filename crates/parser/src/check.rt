@@ -70,7 +70,7 @@ pub fn check(work: &mut [u64], fuel: usize, text: &[u8], grammar: &Prepared) -> 
     ensures refused { length work.old < fuel → (ended result ≡ gave_out) × (work.new ≡ work.old) }
     ensures meaning { Checks grammar.now (length work.old) fuel text.now result }
 {
-    // `next_signs` lends and clears so too: a function of a closure over both slices is longer than these lines
+    // `next_signs` lends and clears so too: a function of a closure over both slices would be longer than these lines, by its contract
     let Some((moves, stack)) = work.split_at_mut_checked(fuel) else {
         return Err(Unread::GaveOut);
     };
