@@ -3,10 +3,11 @@
 #![tactic(auto)]
 
 use anyhow::anyhow;
-use notation::shown::reason;
-use reader::run::run;
-use std::alloc::{AllocError, Global};
-use std::{env, fs, io};
+use notation::shown::{reason, row_text};
+use notation::source::Source;
+use reader::run::{first_row, run};
+use std::alloc::Global;
+use std::io;
 
 const HELP: &str =
     "console: reads commands as numbers, a line each, and prints what the machine answers
@@ -30,38 +31,25 @@ const ROOM: usize = 1048576;
 // The bytes of a command: a word for its kind, then numbers.
 fn command(heap: Global, line: &str) -> anyhow::Result<Vec<u8>> {
     let mut bytes = Vec::new(heap);
-    for (i, word) in line.split_whitespace().enumerate() {
-        if i > 0 {
-            bytes.push(word.parse::<u8>()?)?;
-        } else if word == "load" {
-            bytes.push(1)?;
-        } else if word == "read" {
-            bytes.push(2)?;
-        } else if word == "next" {
-            bytes.push(3)?;
-        } else if word != "say" {
-            return Err(anyhow!("a line begins with load, read, next or say"));
-        }
+    let mut words = line.split_whitespace();
+    match words.next() {
+        Some("load") => bytes.push(1)?,
+        Some("read") => bytes.push(2)?,
+        Some("next") => bytes.push(3)?,
+        Some("say") | None => {}
+        Some(_) => return Err(anyhow!("a line begins with load, read, next or say")),
+    }
+    for word in words {
+        bytes.push(word.parse::<u8>()?)?;
     }
     Ok(bytes)
-}
-
-// A row that is shown, its numbers side by side.
-fn row(heap: Global, numbers: &[u64]) -> Result<String, AllocError> {
-    let mut text = String::from_str(heap, "shows")?;
-    for n in numbers {
-        let word = format!(in heap; " {n}")?;
-        text.push_str(word.as_str())?;
-    }
-    Ok(text)
 }
 
 // The rows that were shown, each with its length before it.
 fn print_rows(rt: &HostRuntime, shown: &[u64]) -> anyhow::Result<()> {
     let mut rest = shown;
-    'row: while let [many, behind @ ..] = rest {
-        let (numbers, later) = behind.split_at(behind.len().min(*many as usize));
-        rt.println(row(rt.alloc(), numbers)?)?;
+    'row: while let Some((numbers, later)) = first_row(rest) {
+        rt.println(row_text(rt.alloc(), numbers)?)?;
         rest = later;
     }
     Ok(())
@@ -99,12 +87,7 @@ fn converse(rt: &HostRuntime, text: &str) -> anyhow::Result<()> {
         }
         println!(rt; "> {line}")?;
         match command(rt.alloc(), line) {
-            Ok(bytes) => answer(
-                rt,
-                memory.as_mut_slice(),
-                shown.as_mut_slice(),
-                bytes.as_slice(),
-            )?,
+            Ok(bytes) => answer(rt, &mut memory, &mut shown, &bytes)?,
             Err(e) => println!(rt; "not understood: {e}")?,
         }
     }
@@ -112,21 +95,15 @@ fn converse(rt: &HostRuntime, text: &str) -> anyhow::Result<()> {
 }
 
 fn start(rt: &HostRuntime) -> anyhow::Result<()> {
-    let mut args = env::args(rt)?;
-    let _ = args.next();
-    let Some(path) = args.next() else {
-        let text = io::read_to_string(rt.alloc(), rt.stdin())?;
-        return converse(rt, text.as_str());
+    let text = match Source::of(rt, "console")? {
+        Source::Help => {
+            rt.println(HELP)?;
+            return Ok(());
+        }
+        Source::Input => io::read_to_string(rt.alloc(), rt.stdin())?,
+        Source::File(text) => text,
     };
-    if path.as_str() == "--help" {
-        rt.println(HELP)?;
-        return Ok(());
-    }
-    let Ok(text) = fs::read_to_string(rt, path.as_str()) else {
-        eprintln!(rt; "console: {path} cannot be read")?;
-        return Err(anyhow!("a file that cannot be read"));
-    };
-    converse(rt, text.as_str())
+    converse(rt, &text)
 }
 
 fn main(rt: HostRuntime) -> anyhow::Result<()> {

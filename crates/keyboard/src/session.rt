@@ -2,17 +2,30 @@
 use crate::help::LINES;
 use notation::fault::Fault;
 use notation::rules::Notation;
-use notation::{said, shown};
+use notation::said::Spelled;
+use notation::shown;
 use reader::Told;
 use std::alloc::{AllocError, Global};
 
 // The numbers of memory that the machine has.
 const WORDS: usize = 524288;
 
-// The first bytes of the commands that have a text behind them.
-const READ: u8 = 2;
+// What is asked of the machine about a text.
+#[derive(Clone, Copy)]
+enum Asked {
+    Read,
+    Next,
+}
 
-const NEXT: u8 = 3;
+// The first byte of the command.
+impl From<Asked> for u8 {
+    fn from(asked: Asked) -> u8 {
+        match asked {
+            Asked::Read => 2,
+            Asked::Next => 3,
+        }
+    }
+}
 
 // What the machine does with one command: all numbers that it shows, and the number of its refusal.
 #[derive(Drop)]
@@ -22,80 +35,32 @@ struct Answer {
 }
 
 #[derive(Drop)]
+struct Machine {
+    memory: Vec<u64>,
+    // Whether it has the grammar of the rules as they are.
+    loaded: bool,
+}
+
+#[derive(Drop)]
 pub struct Session {
     notation: Notation,
-    // Whether the machine has the grammar of the rules as they are.
-    loaded: bool,
-    memory: Vec<u64>,
+    machine: Machine,
 }
 
 fn refusal(heap: Global, number: u64) -> Result<String, AllocError> {
     format!(in heap; "refused, {number}: {}", shown::reason(number))
 }
 
-// What is behind the first word of a line, where it is this one.
-fn behind<'a>(line: &'a str, word: &str) -> Option<&'a str> {
-    let rest = line.strip_prefix(word)?;
-    if rest.is_empty() || rest.starts_with(' ') {
-        Some(rest)
-    } else {
-        None
-    }
-}
-
-// The first numbers of a row, behind those that were shown before.
-fn keep(shown: &mut Vec<u64>, row: &[u64], count: usize) -> Result<(), AllocError> {
-    for number in row.iter().take(count) {
-        shown.push(*number)?;
-    }
-    Ok(())
-}
-
-// One command, to its end.
-fn ask(heap: Global, memory: &mut [u64], bytes: &[u8]) -> Result<Answer, AllocError> {
-    let mut shown = Vec::new(heap);
-    let mut out = [0u64; 32];
-    let mut kind = 0;
-    for _ in 0..u64::MAX {
-        match reader::step(memory, kind, bytes, &mut out) {
-            Told::Shows(n) => keep(&mut shown, &out, n as usize)?,
-            Told::Done => return Ok(Answer {
-                shown,
-                refused: None,
-            }),
-            Told::No(k) => return Ok(Answer {
-                shown,
-                refused: Some(k),
-            }),
-        }
-        kind = 1;
-    }
-    Ok(Answer {
-        shown,
-        refused: Some(0),
-    })
-}
-
-fn numbers(heap: Global, row: &[u64]) -> Result<String, AllocError> {
-    let mut text = String::from_str(heap, "shows")?;
-    for n in row {
-        let word = format!(in heap; " {n}")?;
-        text.push_str(word.as_str())?;
-    }
-    Ok(text)
-}
-
 // Why a grammar is refused, in words.
 fn grammar_refused(
     heap: Global,
-    notation: &Notation,
-    codes: &[u8],
+    spelled: &Spelled,
     number: u64,
     row: &[u64],
 ) -> Result<String, AllocError> {
     match row {
-        [due, other, ahead] => notation.clash(heap, codes, *due, *other, *ahead),
-        [name] => notation.useless(heap, *name),
+        [due, other, ahead] => spelled.clash(heap, *due, *other, *ahead),
+        [name] => spelled.notation.useless(heap, *name),
         _ => refusal(heap, number),
     }
 }
@@ -104,16 +69,59 @@ fn grammar_refused(
 fn text_answered(
     heap: Global,
     notation: &Notation,
+    asked: Asked,
     line: &str,
     answer: &Answer,
 ) -> Result<String, Fault> {
-    let Some(number) = answer.refused else {
-        return notation.reading(heap, answer.shown.as_slice());
+    let shown = answer.shown.as_slice();
+    let text = match (asked, answer.refused, shown) {
+        (Asked::Read, None, _) => return notation.reading(heap, shown),
+        (Asked::Next, None, _) => shown::row_text(heap, shown),
+        (Asked::Read, Some(_), [place]) => shown::wrong_at(heap, line, *place),
+        (_, Some(number), _) => refusal(heap, number),
     };
-    if let [place] = answer.shown.as_slice() {
-        return Ok(shown::wrong_at(heap, line, *place)?);
+    Ok(text?)
+}
+
+impl Machine {
+    // One command, to its end.
+    fn ask(&mut self, heap: Global, bytes: &[u8]) -> Result<Answer, AllocError> {
+        let mut shown = Vec::new(heap);
+        let mut out = [0u64; 32];
+        let mut kind = 0;
+        for _ in 0..u64::MAX {
+            match reader::step(&mut self.memory, kind, bytes, &mut out) {
+                Told::Shows(n) => shown.extend(out.iter().copied().take(n as usize))?,
+                Told::Done => return Ok(Answer {
+                    shown,
+                    refused: None,
+                }),
+                Told::No(k) => return Ok(Answer {
+                    shown,
+                    refused: Some(k),
+                }),
+            }
+            kind = 1;
+        }
+        Ok(Answer {
+            shown,
+            refused: Some(0),
+        })
     }
-    Ok(refusal(heap, number)?)
+
+    // Brings the grammar to the machine where the rules have changed; what is wrong with it comes back in words.
+    fn load(&mut self, heap: Global, spelled: &Spelled) -> Result<Option<String>, Fault> {
+        if self.loaded {
+            return Ok(None);
+        }
+        let bytes = spelled.load(heap)?;
+        let answer = self.ask(heap, &bytes)?;
+        let Some(number) = answer.refused else {
+            self.loaded = true;
+            return Ok(None);
+        };
+        Ok(Some(grammar_refused(heap, spelled, number, &answer.shown)?))
+    }
 }
 
 impl Session {
@@ -121,65 +129,45 @@ impl Session {
         let memory = vec![in heap; 0u64; WORDS]?;
         Ok(Session {
             notation: Notation::new(heap),
-            loaded: false,
-            memory,
+            machine: Machine {
+                memory,
+                loaded: false,
+            },
         })
     }
 
-    // Brings the grammar to the machine where the rules have changed; what is wrong with it comes back in words.
-    fn load(&mut self, heap: Global, codes: &[u8]) -> Result<Option<String>, Fault> {
-        if self.loaded {
-            return Ok(None);
-        }
-        let bytes = said::load(heap, &self.notation, codes)?;
-        let answer = ask(heap, self.memory.as_mut_slice(), bytes.as_slice())?;
-        let Some(number) = answer.refused else {
-            self.loaded = true;
-            return Ok(None);
-        };
-        Ok(Some(grammar_refused(heap, &self.notation, codes, number, answer.shown.as_slice())?))
-    }
-
-    // A text, under the command of this kind.
-    fn text(&mut self, heap: Global, kind: u8, line: &str) -> Result<String, Fault> {
+    // A text, and what is asked about it.
+    fn text(&mut self, heap: Global, asked: Asked, line: &str) -> Result<String, Fault> {
         if self.notation.rules.is_empty() {
             return Err(Fault::NoRules);
         }
         let codes = self.notation.codes(heap)?;
-        let bytes = said::text(heap, kind, &self.notation, codes.as_slice(), line)?;
-        if let Some(wrong) = self.load(heap, codes.as_slice())? {
+        let spelled = Spelled {
+            notation: &self.notation,
+            codes: &codes,
+        };
+        let bytes = spelled.text(heap, u8::from(asked), line)?;
+        if let Some(wrong) = self.machine.load(heap, &spelled)? {
             return Ok(wrong);
         }
-        let answer = ask(heap, self.memory.as_mut_slice(), bytes.as_slice())?;
-        if kind == READ {
-            return text_answered(heap, &self.notation, line, &answer);
-        }
-        match answer.refused {
-            Some(number) => Ok(refusal(heap, number)?),
-            None => Ok(numbers(heap, answer.shown.as_slice())?),
-        }
+        let answer = self.machine.ask(heap, &bytes)?;
+        text_answered(heap, &self.notation, asked, line, &answer)
     }
 
     // A line that begins with a colon.
     fn command(&mut self, heap: Global, line: &str) -> Result<String, Fault> {
-        if let Some(text) = behind(line, ":next") {
-            return self.text(heap, NEXT, text);
+        match line.split_once(' ').unwrap_or((line, "")) {
+            (":next", text) => self.text(heap, Asked::Next, text),
+            (":read", text) => self.text(heap, Asked::Read, text),
+            (":rules", "") => Ok(self.notation.all_rules(heap)?),
+            (":clear", "") => {
+                self.notation = Notation::new(heap);
+                self.machine.loaded = false;
+                Ok(String::new(heap))
+            }
+            (":help", "") => Ok(String::from_str(heap, LINES)?),
+            _ => Err(Fault::Command(String::from_str(heap, line)?)),
         }
-        if let Some(text) = behind(line, ":read") {
-            return self.text(heap, READ, text);
-        }
-        if line == ":rules" {
-            return Ok(self.notation.all_rules(heap)?);
-        }
-        if line == ":clear" {
-            self.notation = Notation::new(heap);
-            self.loaded = false;
-            return Ok(String::new(heap));
-        }
-        if line == ":help" {
-            return Ok(String::from_str(heap, LINES)?);
-        }
-        Err(Fault::Command(String::from_str(heap, line)?))
     }
 
     // The answer to a line, which may be empty.
@@ -192,9 +180,9 @@ impl Session {
         }
         if line.contains('=') {
             self.notation.add(heap, line)?;
-            self.loaded = false;
+            self.machine.loaded = false;
             return Ok(String::new(heap));
         }
-        self.text(heap, READ, line)
+        self.text(heap, Asked::Read, line)
     }
 }

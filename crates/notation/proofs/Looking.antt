@@ -1,51 +1,47 @@
--- Lookups: one more place that was looked at, and what is found.
-use Rattle.std.proofs.Common.{◌≡◌, ℕ, ◌+◌, ◌<◌, ◌≤◌, Bool, true, false, cond, List, [], ◌∷◌, ◌++◌, map, length, get_or, take, Decides, sym, refl, ap, ◌∙◌, inl, inr, arith, length-append}
+-- Lookups: what is found, and what is put into a table.
+use Rattle.std.proofs.Common.{◌≡◌, ℕ, ◌<◌, ◌≤◌, ◌⊎◌, Bool, true, false, List, [], ◌∷◌, map, length, position, slice_get, get_or, option_copied, MatchOption, Bor, Option, Some, None, Decides, inl, inr, refl, sym, ap, subst, ◌∙◌, arith}
 use mathlib.Core.Bool.{false≢true}
-use Rattle.std.proofs.lemmas.List.{get_or-map, get_or_past, length-map, take_all, take_at}
-use Rattle.std.proofs.lemmas.Bool.{cases_order}
+use Rattle.std.proofs.lemmas.Grind.{common_steps}
+use Rattle.std.proofs.lemmas.List.{get_or-map, get_or_past, length-map, map-id}
+use Rattle.std.proofs.lemmas.List.Quantifiers.{position-Some}
+use Rattle.std.proofs.lemmas.List.Sums.{fails_before_first}
+use Rattle.std.proofs.lemmas.Option.{get_or_from_slice_get, slice_get_cases, slice_get_within}
+use Rattle.std.specs.List.{position_or_len}
+use Rattle.notation.specs.Lookups.{Finds}
 
--- x stands at none of the first n places
-abbrev pub NotBefore : {A : Type 0} → A → List A → A → ℕ → Type 0
-NotBefore d xs x n = (k : ℕ) → k < n → get_or xs k d ≡ x → ⊥
+-- the first place that passes a test is one where w stands, if the test says that it does
+module _ {X Y : Type 0} (f : X → Y) (p : X → Bool) (w d : Y) (says : (x : X) → Decides (p x) (w ≡ f x)) where
+  finds : (xs : List X) (r : Option ℕ) → position p xs ≡ r → Finds d (map f xs) w r
+  finds [] (Some i) e = absurd (cc)
+  finds [] None e = λ k l z. absurd (omega arith)
+  finds (x ∷ xs) (Some i) e =
+      let at = position-Some p (x ∷ xs) i x e in
+      (omega (arith, at.0, length-map (x ∷ xs) f), get_or-map f (x ∷ xs) i x d at.0 ∙ sym ((says (get_or (x ∷ xs) i x)).0 at.1))
+  finds (x ∷ xs) None e = λ k l z.
+      let less : k < length (x ∷ xs) = omega (arith, l, length-map (x ∷ xs) f) in
+      let far : length (x ∷ xs) ≤ position_or_len p (x ∷ xs) = grind (arith, common_steps) in
+      false≢true (sym (fails_before_first p (x ∷ xs) k x (omega (arith, less, far))) ∙ (says (get_or (x ∷ xs) k x)).1 (sym z ∙ get_or-map f (x ∷ xs) k x d less))
 
-pub mapped_at : {X Y : Type 0} (f : X → Y) (xs : List X) (i : ℕ) (x : X) (e : Y) → i < length xs → x ≡ get_or xs i x → get_or (map f xs) i e ≡ f x
-mapped_at f xs i x e l h = get_or-map f xs i x e l ∙ ap f (sym h)
+  pub position_finds : (xs : List X) (r : Option ℕ) → r ≡ position p xs → Finds d (map f xs) w r
+  position_finds xs r e = finds xs r (sym e)
 
-pub mapped_past : {X Y : Type 0} (f : X → Y) (xs : List X) (i : ℕ) (e : Y) → length xs ≤ i → e ≡ get_or (map f xs) i e
-mapped_past f xs i e l = sym (get_or_past (map f xs) i e (omega (arith, length-map xs f)))
+-- the same of the items themselves
+pub first_finds : {X : Type 0} (p : X → Bool) (w d : X) → ((x : X) → Decides (p x) (w ≡ x)) → (xs : List X) (r : Option ℕ) → r ≡ position p xs → Finds d xs w r
+first_finds p w d says xs r e = subst (λ ys. Finds d ys w r) (map-id xs) (position_finds (λ x. x) p w d says xs r e)
 
-pub found_here : {X Y : Type 0} (f : X → Y) (xs : List X) (i : ℕ) (x : X) (d y w : Y) (t : Bool) → i < length xs → x ≡ get_or xs i x → y ≡ f x → Decides t (y ≡ w) → t ≡ true → (i < length (map f xs)) × (get_or (map f xs) i d ≡ w)
-found_here f xs i x d y w t l h e s ok =
-    let m : get_or (map f xs) i d ≡ f x = mapped_at f xs i x d l h in
-    let z : y ≡ w = s.0 ok in
-    (omega (arith, length-map xs f), m ∙ sym e ∙ z)
+-- what stands at a place
+pub stands_there : {X Y : Type 0} (f : X → Y) (xs : List X) (i : ℕ) (x : X) (w d : Y) → slice_get xs i ≡ Some x → f x ≡ w → (i < length (map f xs)) × (get_or (map f xs) i d ≡ w)
+stands_there f xs i x w d at e =
+    let l : i < length xs = slice_get_within xs i x at in
+    (omega (arith, length-map xs f), get_or-map f xs i x d l ∙ ap f (get_or_from_slice_get xs i x x at) ∙ e)
 
-pub not_before_more : {X Y : Type 0} (f : X → Y) (xs : List X) (i : ℕ) (x : X) (d y w : Y) (t : Bool) → NotBefore d (map f xs) w i → i < length xs → x ≡ get_or xs i x → y ≡ f x → Decides t (y ≡ w) → t ≡ false → NotBefore d (map f xs) w (i + 1)
-not_before_more f xs i x d y w t n l h e s bad k less z =
-    elim (cases_order k i) [
-      | inl j ↦ here (ap (λ q. get_or (map f xs) q d) (sym j) ∙ z)
-      | inr (inl j) ↦ n k j z
-      | inr (inr j) ↦ absurd (omega (arith, less, j))
-    ]
+-- what is read at a place, or what stands for nothing
+pub read_there : {X Y : Type 0} (f : X → Y) (xs : List X) (i : ℕ) (m d : Bor Y) (r : Option (Bor X)) (P : Bor X → Type 0) → option_copied r ≡ slice_get xs i → ((x : Bor X) → P x → m.now ≡ f x.now) → MatchOption r (m ≡ d) P → m.now ≡ get_or (map f xs) i d.now
+read_there f xs i m d None P e says h =
+    let far : length xs ≤ i = past (slice_get_cases xs i).1 in
+    ap (λ z. z.now) h ∙ sym (get_or_past (map f xs) i d.now (omega (arith, length-map xs f, far)))
   where
-    here : get_or (map f xs) i d ≡ w → ⊥
-    here q = false≢true (sym bad ∙ s.1 (e ∙ sym (mapped_at f xs i x d l h) ∙ q))
-
-pub not_before_all : {X Y : Type 0} (f : X → Y) (xs : List X) (i : ℕ) (d w : Y) → NotBefore d (map f xs) w i → length xs ≤ i → NotBefore d (map f xs) w (length (map f xs))
-not_before_all f xs i d w n l k less z = n k (omega (arith, less, length-map xs f)) z
-
--- a table that at most grew at its end
-pub kept_push : {A : Type 0} (xs ys : List A) (n : ℕ) (y : A) (t : Bool) → n ≡ length xs → ys ≡ cond t (xs ++ y ∷ []) xs → take n ys ≡ xs
-kept_push xs ys n y true e h = ap (λ z. take n z) h ∙ take_at xs (y ∷ []) n (sym e)
-kept_push xs ys n y false e h = ap (λ z. take n z) h ∙ take_all n xs (omega (arith, e))
-
--- what was put at the end stands there
-at_end : {A B : Type 0} (f : A → B) (xs : List A) (y : A) (d : B) → get_or (map f (xs ++ y ∷ [])) (length xs) d ≡ f y
-at_end f [] y d = refl
-at_end f (x ∷ xs) y d = at_end f xs y d
-
-pub pushed_there : {A B : Type 0} (f : A → B) (xs ys : List A) (y : A) (n : ℕ) (w d : B) → n ≡ length xs → ys ≡ xs ++ y ∷ [] → f y ≡ w →
-    (n < length (map f ys)) × (get_or (map f ys) n d ≡ w)
-pushed_there f xs ys y n w d e h k =
-    let l : length ys ≡ length xs + 1 = ap length h ∙ length-append xs (y ∷ []) in
-    (omega (arith, length-map ys f, l, e), ap (λ z. get_or (map f z) n d) h ∙ ap (λ i. get_or (map f (xs ++ y ∷ [])) i d) e ∙ at_end f xs y d ∙ k)
+    past : ((x : _) × (i < length xs) × (slice_get xs i ≡ Some x) × (get_or xs i x ≡ x)) ⊎ ((length xs ≤ i) × (slice_get xs i ≡ None)) → length xs ≤ i
+    past (inl s) = absurd (let z = e ∙ s.2 in cc)
+    past (inr s) = s.0
+read_there f xs i m d (Some x) P e says h = says x h ∙ sym (stands_there f xs i x.now (f x.now) d.now (sym e) refl).1

@@ -1,60 +1,52 @@
 // A table of words, each once, known by its number.
-ghost use Rattle.std.specs.Prelude.{◌≡◌, ◌<◌, [], map, take, IfOk, Some, vec_len, string_bytes, codes, slice_index_or};
+ghost use Rattle.std.specs.Prelude.{◌≡◌, ◌<◌, [], map, take, length, IfOk, Some, string_bytes, codes, slice_index_or};
 ghost use Rattle.notation.specs.Lookups.{Finds};
 
 use crate::fault::Fault;
+use indexmap::IndexSet;
 use std::alloc::Global;
 
 #[derive(Drop)]
 pub struct Words {
-    all: Vec<String>,
+    all: IndexSet<String>,
 }
 
 impl Words {
     pub fn new(heap: Global) -> Words
-        ensures { result.all.items ≡ [] }
+        ensures { result.all.keys ≡ [] }
     {
         Words {
-            all: Vec::new(heap),
+            all: IndexSet::new(heap),
         }
     }
 
     pub fn len(&self) -> usize
-        ensures { result ≡ vec_len self.now.all }
+        ensures { result ≡ length self.now.all.keys }
     {
         self.all.len()
     }
 
     pub fn find(&self, word: &str) -> Option<usize>
-        ensures { Finds [] (map string_bytes self.now.all.items) word.now result }
+        ensures { Finds [] (map string_bytes self.now.all.keys) word.now result }
     {
-        for number in 0..self.all.len() {
-            if self.all[number].as_str() == word {
-                return Some(number);
-            }
-        }
-        None
+        self.all.get_index_of(word)
     }
 
     // The number of a word, which is put at the end where it is new.
     pub fn enter(&mut self, heap: Global, word: &str) -> Result<usize, Fault>
-        ensures kept { take (vec_len self.old.all) self.new.all.items ≡ self.old.all.items }
-        ensures stands { IfOk result (λ n. Finds [] (map string_bytes self.new.all.items) word.now (Some n)) }
+        ensures kept { take (length self.old.all.keys) self.new.all.keys ≡ self.old.all.keys }
+        ensures stands { IfOk result (λ n. Finds [] (map string_bytes self.new.all.keys) word.now (Some n)) }
     {
         if let Some(number) = self.find(word) {
             return Ok(number);
         }
-        let number = self.all.len();
-        self.all.push(String::from_str(heap, word)?)?;
+        let (number, _) = self.all.insert_full(String::from_str(heap, word)?)?;
         Ok(number)
     }
 
     pub fn word(&self, number: usize) -> &str
-        ensures { result.now ≡ slice_index_or (map string_bytes self.now.all.items) number (codes "?") }
+        ensures { result.now ≡ slice_index_or (map string_bytes self.now.all.keys) number (codes "?") }
     {
-        match self.all.get(number) {
-            Some(word) => word.as_str(),
-            None => "?",
-        }
+        self.all.get_index(number).map_or("?", |word| word.as_str())
     }
 }

@@ -6,5 +6,6 @@ pub mod lexicon;
 pub mod rules;
 pub mod said;
 pub mod shown;
+pub mod source;
 #[cfg(test)]
 mod tests;

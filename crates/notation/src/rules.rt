@@ -1,11 +1,12 @@
 // Rules, and which of their words are names.
-ghost use Rattle.std.specs.Prelude.{◌≡◌, ◌+◌, true, [], is_ok, IfOk, vec_len};
+ghost use Rattle.std.specs.Prelude.{◌≡◌, ◌+◌, true, [], is_ok, IfOk, length, vec_len};
 ghost use Rattle.grammar.specs.Grammar.{every};
 ghost use Rattle.grammar.specs.Spelling.{byte_ok};
 ghost use Rattle.notation.specs.Lookups.{Added, Finds};
 
 use crate::fault::Fault;
 use crate::lexicon::Words;
+use indexmap::IndexSet;
 use std::alloc::Global;
 
 // The rules that a grammar may have besides the first, which is made up, and the symbols on their right sides together.
@@ -29,7 +30,7 @@ pub struct Notation {
     pub words: Words,
     pub rules: Vec<Rule>,
     // The words on left sides, each once.
-    names: Vec<usize>,
+    names: IndexSet<usize>,
     // How many symbols all right sides have together.
     symbols: usize,
 }
@@ -37,21 +38,16 @@ pub struct Notation {
 // The only word of a piece of text.
 fn only_word(text: &str) -> Option<&str> {
     let mut words = text.split_whitespace();
-    let word = words.next()?;
-    if words.next().is_some() {
-        return None;
+    match (words.next(), words.next()) {
+        (Some(word), None) => Some(word),
+        _ => None,
     }
-    Some(word)
 }
 
 // The left side of a line that is a rule, and its right side.
 fn sides(line: &str) -> Result<(&str, &str), Fault> {
-    let Some((before, behind)) = line.split_once('=') else {
-        return Err(Fault::LeftSide);
-    };
-    let Some(left) = only_word(before) else {
-        return Err(Fault::LeftSide);
-    };
+    let (before, behind) = line.split_once('=').ok_or(Fault::LeftSide)?;
+    let left = only_word(before).ok_or(Fault::LeftSide)?;
     if behind.contains('=') {
         return Err(Fault::SecondEquals);
     }
@@ -65,40 +61,33 @@ impl Notation {
         Notation {
             words: Words::new(heap),
             rules: Vec::new(heap),
-            names: Vec::new(heap),
+            names: IndexSet::new(heap),
             symbols: 0,
         }
     }
 
     // The number of a name among the names, from 0 on.
     pub fn place_of_name(&self, word: usize) -> Option<usize>
-        ensures { Finds 0 self.now.names.items word result }
+        ensures { Finds 0 self.now.names.keys word result }
     {
-        for place in 0..self.names.len() {
-            if self.names[place] == word {
-                return Some(place);
-            }
-        }
-        None
+        self.names.get_index_of(&word)
     }
 
     pub fn is_name(&self, word: usize) -> bool {
-        self.place_of_name(word).is_some()
+        self.names.contains(&word)
     }
 
     // The word of a name by its number, which is 1 for the first; 0 is the beginning, which texts of the first name are of.
     pub fn word_of_name(&self, number: usize) -> &str {
-        match self.names.get(number.saturating_sub(1)) {
-            Some(word) => self.words.word(*word),
-            None => "?",
-        }
+        self.names
+            .get_index(number.saturating_sub(1))
+            .map_or("?", |word| self.words.word(*word))
     }
 
     fn has_name(&self, word: &str) -> bool {
-        match self.words.find(word) {
-            Some(number) => self.is_name(number),
-            None => false,
-        }
+        self.words
+            .find(word)
+            .is_some_and(|number| self.is_name(number))
     }
 
     // Whether a rule for this word with so many symbols would still fit.
@@ -111,15 +100,6 @@ impl Notation {
         }
         if self.names.len() >= NAMES && !self.has_name(left) {
             return Err(Fault::Names);
-        }
-        Ok(())
-    }
-
-    fn enter_name(&mut self, word: usize) -> Result<(), Fault>
-        ensures { self.new.rules ≡ self.old.rules }
-    {
-        if !self.is_name(word) {
-            self.names.push(word)?;
         }
         Ok(())
     }
@@ -143,7 +123,7 @@ impl Notation {
         self.room(left, symbols)?;
         let left = self.words.enter(heap, left)?;
         let right = self.enter_all(heap, behind)?;
-        self.enter_name(left)?;
+        self.names.insert(left)?;
         self.symbols = self.symbols.saturating_add(symbols);
         Ok(Rule { left, right })
     }
@@ -157,41 +137,21 @@ impl Notation {
         Ok(())
     }
 
-    // The byte of a word, where so many signs have come before it.
-    fn spelled(&self, word: usize, signs: u8) -> Result<u8, Fault>
-        ensures { IfOk result (λ b. byte_ok b ≡ true) }
-    {
-        match self.place_of_name(word) {
-            Some(place) => name_code(place),
-            None => sign_code(signs),
-        }
-    }
-
     // For each word the byte that spells it: names count from 33 on, signs from 0 on.
     pub fn codes(&self, heap: Global) -> Result<Vec<u8>, Fault>
-        ensures { IfOk result (λ v. (vec_len v ≡ vec_len self.now.words.all) × (every byte_ok v.items ≡ true)) }
+        ensures { IfOk result (λ v. (vec_len v ≡ length self.now.words.all.keys) × (every byte_ok v.items ≡ true)) }
     {
         let mut codes = Vec::new(heap);
-        let mut signs = 0u8;
+        let mut signs = 0..SIGNS;
         for word in 0..self.words.len() {
-            let code = self.spelled(word, signs)?;
+            let code = match self.place_of_name(word) {
+                Some(place) => name_code(place)?,
+                None => signs.next().ok_or(Fault::Signs)?,
+            };
             codes.push(code)?;
-            if code < SIGNS {
-                signs = code + 1;
-            }
         }
         Ok(codes)
     }
-}
-
-// The byte of the next sign.
-fn sign_code(signs: u8) -> Result<u8, Fault>
-    ensures { IfOk result (λ b. (b ≡ signs) × (byte_ok b ≡ true)) }
-{
-    if signs >= SIGNS {
-        return Err(Fault::Signs);
-    }
-    Ok(signs)
 }
 
 // The byte of the name at a place among the names.

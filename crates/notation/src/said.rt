@@ -14,98 +14,89 @@ const LENGTH: usize = 4096;
 // The first bytes of commands.
 const LOAD: u8 = 1;
 
-// The byte of a word.
-pub fn code(codes: &[u8], word: usize) -> u8
-    ensures { result ≡ code_of codes.now word }
-{
-    match codes.get(word) {
-        Some(code) => *code,
-        None => 0,
-    }
-}
-
 // How many there are, in a byte.
 fn byte(count: usize) -> Result<u8, Fault>
     ensures { IfOk result (λ b. b ≡ count) }
 {
-    if count > 127 {
-        return Err(Fault::Symbols);
+    match u8::try_from(count) {
+        Ok(byte @ 0..=127) => Ok(byte),
+        _ => Err(Fault::Symbols),
     }
-    Ok(count as u8)
 }
 
-fn say_symbols(bytes: &mut Vec<u8>, codes: &[u8], symbols: &[usize]) -> Result<(), Fault>
-    ensures { OnOk result (bytes.new.items ≡ bytes.old.items ++ map (code_of codes.now) symbols.now) }
-{
-    for word in symbols {
-        bytes.push(code(codes, *word))?;
+// A notation, and for each of its words the byte that spells it.
+#[derive(Clone, Copy)]
+pub struct Spelled<'a> {
+    pub notation: &'a Notation,
+    pub codes: &'a [u8],
+}
+
+impl Spelled<'_> {
+    // The byte of a word.
+    pub fn code(&self, word: usize) -> u8
+        ensures { result ≡ code_of self.now.codes.now word }
+    {
+        self.codes.get(word).copied().unwrap_or(0)
     }
-    Ok(())
-}
 
-fn say_rule(bytes: &mut Vec<u8>, codes: &[u8], rule: &Rule) -> Result<(), Fault>
-    ensures { OnOk result (bytes.new.items ≡ bytes.old.items ++ rule_said codes.now rule.now) }
-{
-    let name = code(codes, rule.left).saturating_sub(32);
-    let count = byte(rule.right.len())?;
-    bytes.extend_from_slice(&[name, count])?;
-    say_symbols(bytes, codes, rule.right.as_slice())?;
-    Ok(())
-}
-
-fn say_rules(bytes: &mut Vec<u8>, codes: &[u8], rules: &[Rule]) -> Result<(), Fault>
-    ensures { OnOk result (bytes.new.items ≡ bytes.old.items ++ flat_map (rule_said codes.now) rules.now) }
-{
-    for rule in rules {
-        say_rule(bytes, codes, rule)?;
+    fn say_rule(&self, bytes: &mut Vec<u8>, rule: &Rule) -> Result<(), Fault>
+        ensures { OnOk result (bytes.new.items ≡ bytes.old.items ++ rule_said self.now.codes.now rule.now) }
+    {
+        let name = self.code(rule.left).saturating_sub(32);
+        let count = byte(rule.right.len())?;
+        bytes.extend_from_slice(&[name, count])?;
+        bytes.extend(rule.right.iter().map(|word| self.code(*word)))?;
+        Ok(())
     }
-    Ok(())
-}
 
-// The command that loads the grammar: a first rule, for the beginning, has the first name on its right side.
-pub fn load(heap: Global, notation: &Notation, codes: &[u8]) -> Result<Vec<u8>, Fault>
-    ensures bytes { IfOk result (λ v. v.items ≡ load_said codes.now notation.now.rules.items) }
-    ensures meaning { IfOk result (λ v. v.items ≡ 1 ∷ grammar_spelled (grammar_meant codes.now notation.now.rules.items)) }
-{
-    let count = notation.rules.len();
-    if count == 0 {
-        return Err(Fault::NoRules);
-    }
-    let mut bytes = Vec::from_slice(heap, &[LOAD, byte(count + 1)?, 0, 1, 33])?;
-    say_rules(&mut bytes, codes, notation.rules.as_slice())?;
-    Ok(bytes)
-}
-
-// The sign that a word of a text is.
-fn sign(heap: Global, notation: &Notation, codes: &[u8], word: &str) -> Result<u8, Fault>
-    ensures { IfOk result (λ b. b < 24) }
-{
-    let Some(number) = notation.words.find(word) else {
-        return Err(Fault::Unknown(String::from_str(heap, word)?));
-    };
-    let sign = code(codes, number);
-    if sign >= 24 {
-        return Err(Fault::Name(String::from_str(heap, word)?));
-    }
-    Ok(sign)
-}
-
-// A command of this kind, and the signs of a text behind it.
-pub fn text(
-    heap: Global,
-    kind: u8,
-    notation: &Notation,
-    codes: &[u8],
-    line: &str,
-) -> Result<Vec<u8>, Fault>
-    ensures { IfOk result (λ v. TextSaid kind v.items) }
-{
-    let mut bytes = Vec::from_slice(heap, &[kind])?;
-    for word in line.split_whitespace() {
-        if bytes.len() > LENGTH {
-            return Err(Fault::Length);
+    fn say_rules(&self, bytes: &mut Vec<u8>, rules: &[Rule]) -> Result<(), Fault>
+        ensures { OnOk result (bytes.new.items ≡ bytes.old.items ++ flat_map (rule_said self.now.codes.now) rules.now) }
+    {
+        for rule in rules {
+            self.say_rule(bytes, rule)?;
         }
-        bytes.push(sign(heap, notation, codes, word)?)?;
+        Ok(())
     }
-    Ok(bytes)
+
+    // The command that loads the grammar: a first rule, for the beginning, has the first name on its right side.
+    pub fn load(&self, heap: Global) -> Result<Vec<u8>, Fault>
+        ensures bytes { IfOk result (λ v. v.items ≡ load_said self.now.codes.now self.now.notation.now.rules.items) }
+        ensures meaning { IfOk result (λ v. v.items ≡ 1 ∷ grammar_spelled (grammar_meant self.now.codes.now self.now.notation.now.rules.items)) }
+    {
+        let count = self.notation.rules.len();
+        if count == 0 {
+            return Err(Fault::NoRules);
+        }
+        let mut bytes = Vec::from_slice(heap, &[LOAD, byte(count + 1)?, 0, 1, 33])?;
+        self.say_rules(&mut bytes, self.notation.rules.as_slice())?;
+        Ok(bytes)
+    }
+
+    // The sign that a word of a text is.
+    fn sign(&self, heap: Global, word: &str) -> Result<u8, Fault>
+        ensures { IfOk result (λ b. b < 24) }
+    {
+        let Some(number) = self.notation.words.find(word) else {
+            return Err(Fault::Unknown(String::from_str(heap, word)?));
+        };
+        let sign = self.code(number);
+        if sign >= 24 {
+            return Err(Fault::Name(String::from_str(heap, word)?));
+        }
+        Ok(sign)
+    }
+
+    // A command of this kind, and the signs of a text behind it. Any byte may be the kind: a narrower type would ask more of callers.
+    pub fn text(&self, heap: Global, kind: u8, line: &str) -> Result<Vec<u8>, Fault>
+        ensures { IfOk result (λ v. TextSaid kind v.items) }
+    {
+        let mut bytes = Vec::from_slice(heap, &[kind])?;
+        for word in line.split_whitespace() {
+            if bytes.len() > LENGTH {
+                return Err(Fault::Length);
+            }
+            bytes.push(self.sign(heap, word)?)?;
+        }
+        Ok(bytes)
+    }
 }

@@ -1,23 +1,24 @@
 // Answers in words: rules, readings with brackets, and what is wrong with a text or a grammar.
+ghost use Rattle.std.specs.Prelude.{◌≡◌, ◌∷◌, ◌++◌, IfOk, string_bytes, codes};
+ghost use Rattle.std.specs.Fmt.{decimal};
+ghost use Rattle.std.specs.List.{flat_map};
+
 use crate::fault::Fault;
 use crate::rules::{Notation, Rule};
+use crate::said::Spelled;
+use itertools::Itertools;
 use std::alloc::{AllocError, Global};
 
 impl Notation {
     // The rule of a number that the machine tells; 0 is the one that is made up.
     fn rule(&self, number: u64) -> Option<&Rule> {
-        if number == 0 || number > 63 {
-            return None;
-        }
-        self.rules.get(number as usize - 1)
+        self.rules.get(number.checked_sub(1)? as usize)
     }
 
     pub fn rule_text(&self, heap: Global, rule: &Rule) -> Result<String, AllocError> {
-        let mut text = String::from_str(heap, self.words.word(rule.left))?;
-        text.push_str(" =")?;
-        for word in rule.right.iter() {
-            text.push_str(" ")?;
-            text.push_str(self.words.word(*word))?;
+        let mut text = format!(in heap; "{} =", self.words.word(rule.left))?;
+        for word in &rule.right {
+            write!(text, " {}", self.words.word(*word))?;
         }
         Ok(text)
     }
@@ -33,45 +34,36 @@ impl Notation {
     // All rules, a line each, with their numbers.
     pub fn all_rules(&self, heap: Global) -> Result<String, AllocError> {
         let mut text = String::new(heap);
-        for (i, rule) in self.rules.iter().enumerate() {
-            if i > 0 {
+        for (number, rule) in (1u64..).zip(&self.rules) {
+            if number > 1 {
                 text.push_str("\n")?;
             }
-            let number = i.saturating_add(1);
-            let line = format!(in heap; "{number}: {}", self.rule_text(heap, rule)?)?;
-            text.push_str(line.as_str())?;
+            write!(text, "{number}: {}", self.rule_text(heap, rule)?)?;
         }
         Ok(text)
     }
 
     // How many names are on the right side of a rule.
     fn names_in(&self, rule: &Rule) -> usize {
-        let mut count = 0usize;
-        for word in rule.right.iter() {
-            if self.is_name(*word) {
-                count = count.saturating_add(1);
-            }
-        }
-        count
+        rule.right
+            .iter()
+            .filter(|word| self.is_name(**word))
+            .count()
     }
 
     // A rule with brackets round its right side, where for its names these parts stand.
     fn bracket(&self, heap: Global, rule: &Rule, parts: &[String]) -> Result<String, Fault> {
-        let mut text = String::from_str(heap, self.words.word(rule.left))?;
-        text.push_str("[")?;
+        let mut text = format!(in heap; "{}[", self.words.word(rule.left))?;
         let mut inner = parts.iter();
         let mut gap = "";
-        for word in rule.right.iter() {
-            text.push_str(gap)?;
-            gap = " ";
-            if self.is_name(*word) {
-                let Some(part) = inner.next() else {
-                    return Err(Fault::Order);
-                };
-                text.push_str(part.as_str())?;
+        for word in &rule.right {
+            let part = if self.is_name(*word) {
+                inner.next().ok_or(Fault::Order)?.as_str()
             } else {
-                text.push_str(self.words.word(*word))?;
-            }
+                self.words.word(*word)
+            };
+            write!(text, "{gap}{part}")?;
+            gap = " ";
         }
         text.push_str("]")?;
         Ok(text)
@@ -79,96 +71,85 @@ impl Notation {
 
     // The last parts of the stack become one, by a rule.
     fn close(&self, heap: Global, stack: &mut Vec<String>, rule: &Rule) -> Result<(), Fault> {
-        let names = self.names_in(rule);
-        let height = stack.len();
-        if names > height {
-            return Err(Fault::Order);
-        }
-        let parts = stack.split_off(height - names)?;
-        let text = self.bracket(heap, rule, parts.as_slice())?;
-        stack.push(text)?;
+        let below = stack
+            .len()
+            .checked_sub(self.names_in(rule))
+            .ok_or(Fault::Order)?;
+        let parts = stack.split_off(below)?;
+        stack.push(self.bracket(heap, rule, &parts)?)?;
         Ok(())
     }
 
     // A reading with brackets, from the numbers of its rules in the order in which they end.
     pub fn reading(&self, heap: Global, rules: &[u64]) -> Result<String, Fault> {
         let mut stack = Vec::new(heap);
-        for number in rules {
-            if let Some(rule) = self.rule(*number) {
-                self.close(heap, &mut stack, rule)?;
-            }
+        for rule in rules.iter().filter_map(|number| self.rule(*number)) {
+            self.close(heap, &mut stack, rule)?;
         }
-        let Some(text) = stack.pop() else {
-            return Err(Fault::Order);
-        };
-        Ok(text)
+        stack.pop().ok_or(Fault::Order)
     }
 
+    pub fn useless(&self, heap: Global, name: u64) -> Result<String, AllocError> {
+        format!(in heap;
+            "{} comes to nothing, or is never reached",
+            self.word_of_name(name.min(31) as usize)
+        )
+    }
+}
+
+impl<'a> Spelled<'a> {
     // The word of a sign that the machine tells.
-    fn sign_text(&self, codes: &[u8], sign: u64) -> &str {
-        for (word, code) in codes.iter().enumerate() {
-            if u64::from(*code) == sign {
-                return self.words.word(word);
-            }
-        }
-        "the end"
+    fn sign_text(&self, sign: u64) -> &'a str {
+        let word = self.codes.iter().position(|code| u64::from(*code) == sign);
+        word.map_or("the end", |word| self.notation.words.word(word))
     }
 
     // Two ways on: a rule that has come to its end, and another one, or to go on.
     pub fn clash(
         &self,
         heap: Global,
-        codes: &[u8],
         due: u64,
         other: u64,
         ahead: u64,
     ) -> Result<String, AllocError> {
-        let before = self.sign_text(codes, ahead);
-        let rule = self.told(heap, due)?;
+        let before = self.sign_text(ahead);
+        let rule = self.notation.told(heap, due)?;
         if other >= 64 {
             return format!(in heap; "before {before} : {rule}, or go on");
         }
-        let second = self.told(heap, other)?;
+        let second = self.notation.told(heap, other)?;
         format!(in heap; "before {before} : {rule}, or {second}")
-    }
-
-    pub fn useless(&self, heap: Global, name: u64) -> Result<String, AllocError> {
-        let number = if name > 31 { 31 } else { name as usize };
-        format!(in heap;
-            "{} comes to nothing, or is never reached",
-            self.word_of_name(number)
-        )
     }
 }
 
 // So many words of a line, side by side.
 fn first_words(heap: Global, line: &str, count: usize) -> Result<String, AllocError> {
-    let mut text = String::new(heap);
-    for word in line.split_whitespace().take(count) {
-        if !text.is_empty() {
-            text.push_str(" ")?;
-        }
-        text.push_str(word)?;
-    }
-    Ok(text)
+    line.split_whitespace().take(count).join(heap, " ")
 }
 
 // Where a line is no text: the words before the place may begin one, and the word at it may not come.
 pub fn wrong_at(heap: Global, line: &str, place: u64) -> Result<String, AllocError> {
     let place = place as usize;
-    match line.split_whitespace().nth(place) {
-        Some(word) => {
-            let text = first_words(heap, line, place.saturating_add(1))?;
-            format!(in heap; "{text} : no text goes on with {word}")
-        }
-        None => {
-            let text = first_words(heap, line, place)?;
-            if text.is_empty() {
-                return String::from_str(heap, "more would have to come");
-            }
-            format!(in heap; "{text} : more would have to come")
-        }
+    if let Some(word) = line.split_whitespace().nth(place) {
+        let text = first_words(heap, line, place.saturating_add(1))?;
+        return format!(in heap; "{text} : no text goes on with {word}");
     }
+    let text = first_words(heap, line, place)?;
+    if text.is_empty() {
+        return String::from_str(heap, "more would have to come");
+    }
+    format!(in heap; "{text} : more would have to come")
+}
+
+// A row that the machine shows, its numbers side by side.
+pub fn row_text(heap: Global, row: &[u64]) -> Result<String, AllocError>
+    ensures { IfOk result (λ s. string_bytes s ≡ codes "shows" ++ flat_map (λ n. 32 ∷ decimal n) row.now) }
+{
+    let mut text = String::from_str(heap, "shows")?;
+    for number in row {
+        write!(text, " {number}")?;
+    }
+    Ok(text)
 }
 
 /// What the number of a refusal means, where no more is told.

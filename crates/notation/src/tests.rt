@@ -1,7 +1,8 @@
 // The worked examples: a grammar of sums, its commands, and answers in words.
 use crate::fault::Fault;
 use crate::rules::Notation;
-use crate::{said, shown};
+use crate::said::Spelled;
+use crate::shown;
 use std::alloc::Global;
 use std::test::Fail;
 
@@ -18,7 +19,11 @@ fn sums_are_spelled(rt: HostRuntime) -> Result<(), Fail> {
     let heap = rt.alloc();
     let notation = sums(heap)?;
     let codes = notation.codes(heap)?;
-    let bytes = said::load(heap, &notation, codes.as_slice())?;
+    let spelled = Spelled {
+        notation: &notation,
+        codes: codes.as_slice(),
+    };
+    let bytes = spelled.load(heap)?;
     assert_eq!(rt;
         bytes.as_slice(),
         [
@@ -26,7 +31,7 @@ fn sums_are_spelled(rt: HostRuntime) -> Result<(), Fail> {
         ]
         .as_slice()
     );
-    let bytes = said::text(heap, 2, &notation, codes.as_slice(), "x + ( x )")?;
+    let bytes = spelled.text(heap, 2, "x + ( x )")?;
     assert_eq!(rt; bytes.as_slice(), [2, 1, 0, 2, 1, 3].as_slice());
     Ok(())
 }
@@ -46,12 +51,16 @@ fn refusals_are_told(rt: HostRuntime) -> Result<(), Fail> {
     let heap = rt.alloc();
     let notation = sums(heap)?;
     let codes = notation.codes(heap)?;
+    let spelled = Spelled {
+        notation: &notation,
+        codes: codes.as_slice(),
+    };
     assert_eq!(rt;
-        notation.clash(heap, codes.as_slice(), 1, 64, 0)?.as_str(),
+        spelled.clash(heap, 1, 64, 0)?.as_str(),
         "before + : sum = sum + one, or go on"
     );
     assert_eq!(rt;
-        notation.clash(heap, codes.as_slice(), 2, 3, 24)?.as_str(),
+        spelled.clash(heap, 2, 3, 24)?.as_str(),
         "before the end : sum = one, or one = x"
     );
     assert_eq!(rt;
@@ -75,16 +84,23 @@ fn faults_lose_no_rule(rt: HostRuntime) -> Result<(), Fail> {
     let mut notation = sums(heap)?;
     assert!(rt; matches!(notation.add(heap, "a b = c"), Err(Fault::LeftSide)));
     assert!(rt; matches!(notation.add(heap, "a = b = c"), Err(Fault::SecondEquals)));
-    assert!(rt;
-        matches!(
-            said::text(heap, 2, &notation, &[], "x * x"),
-            Err(Fault::Unknown(_))
-        )
-    );
+    let spelled = Spelled {
+        notation: &notation,
+        codes: &[],
+    };
+    assert!(rt; matches!(spelled.text(heap, 2, "x * x"), Err(Fault::Unknown(_))));
     for _ in 0..59 {
         notation.add(heap, "one = x x")?;
     }
     assert!(rt; matches!(notation.add(heap, "one = x"), Err(Fault::Rules)));
     assert_eq!(rt; notation.rules.len(), 63);
+    Ok(())
+}
+
+#[test]
+fn rows_are_shown(rt: HostRuntime) -> Result<(), Fail> {
+    let heap = rt.alloc();
+    assert_eq!(rt; shown::row_text(heap, &[1, 64, 0])?.as_str(), "shows 1 64 0");
+    assert_eq!(rt; shown::row_text(heap, &[])?.as_str(), "shows");
     Ok(())
 }

@@ -1,9 +1,8 @@
-use Rattle.std.proofs.Common.{rules}
-use Rattle.notation.proofs.Looking.{mapped_at, mapped_past}
+use Rattle.std.proofs.Common.{string_bytes, rules}
+use Rattle.notation.proofs.Looking.{read_there}
 use Rattle.notation.proofs.lexicon.Words.word.Goals as goal
 
-pub returns-in-Some : goal.returns-in-Some
-returns-in-Some c = search (rules, mapped_at)
-
-pub returns-in-None : goal.returns-in-None
-returns-in-None c = search (rules, mapped_past)
+pub returns : goal.returns
+returns c =
+    read_there string_bytes c.args.self.now.all.keys c.args.number c.map_or.result _ c.get_index.result _ c.get_index.ensures.key
+    (λ x h. search rules) c.map_or.ensures
