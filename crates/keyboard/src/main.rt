@@ -9,7 +9,7 @@ mod help;
 mod session;
 
 // Answers each line, up to one that ends the session.
-fn converse<R: BufRead>(rt: &HostRuntime, lines: R) -> anyhow::Result<()> {
+fn converse<R: BufRead + Drop>(rt: &HostRuntime, lines: R) -> anyhow::Result<()> {
     let mut session = Session::new(rt.alloc())?;
     for (number, line) in (1u64..).zip(lines.lines(rt.alloc())) {
         let line = line?;

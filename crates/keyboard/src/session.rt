@@ -74,13 +74,16 @@ fn text_answered(
     answer: &Answer,
 ) -> Result<String, Fault> {
     let shown = answer.shown.as_slice();
-    let text = match (asked, answer.refused, shown) {
-        (Asked::Read, None, _) => return notation.reading(heap, shown),
-        (Asked::Next, None, _) => shown::row_text(heap, shown),
-        (Asked::Read, Some(_), [place]) => shown::wrong_at(heap, line, *place),
-        (_, Some(number), _) => refusal(heap, number),
+    let Some(number) = answer.refused else {
+        return match asked {
+            Asked::Read => notation.reading(heap, shown),
+            Asked::Next => Ok(shown::row_text(heap, shown)?),
+        };
     };
-    Ok(text?)
+    match (asked, shown) {
+        (Asked::Read, [place]) => Ok(shown::wrong_at(heap, line, *place)?),
+        _ => Ok(refusal(heap, number)?),
+    }
 }
 
 impl Machine {
