@@ -1,9 +1,9 @@
 -- The steps of the functions that write commands.
-use Rattle.std.proofs.Common.{◌≡◌, ℕ, ◌+◌, ◌<◌, ◌≤◌, Bool, true, cond, ltb, List, [], ◌∷◌, ◌++◌, map, length, get_or, take, refl, ap, ◌∙◌, arith}
+use Rattle.std.proofs.Common.{◌≡◌, ℕ, ◌+◌, ◌<◌, ◌≤◌, Bool, true, cond, ltb, List, [], ◌∷◌, ◌++◌, map, length, refl, ap, ◌∙◌, arith}
 use Rattle.grammar.specs.Grammar.{every}
 use Rattle.grammar.specs.Spelling.{byte_ok}
 use Rattle.std.specs.List.{flat_map}
-use Rattle.std.proofs.lemmas.List.{append_assoc, flat_map_more, length-append, map_more, take_more}
+use Rattle.std.proofs.lemmas.List.{append_assoc, length-append}
 use Rattle.std.proofs.lemmas.Bool.{and_from, and_parts, lt-ltb}
 use Rattle.notation.specs.declared.rules.Rule.{Rule}
 use Rattle.notation.specs.Said.{TextSaid, load_said, rule_said}
@@ -11,23 +11,6 @@ use Rattle.notation.specs.Said.{TextSaid, load_said, rule_said}
 -- what a call that may fail for memory leaves, where it did not
 pub at_ok : {A : Type 0} (c x y : A) (t : Bool) → c ≡ cond t x y → t ≡ true → c ≡ x
 at_ok c x y t e h = e ∙ ap (λ z. cond z x y) h
-
--- one more symbol
-pub map_said_more : (f : ℕ → ℕ) (a b c xs : List ℕ) (i y : ℕ) (t : Bool) → b ≡ a ++ map f (take i xs) → i < length xs → y ≡ f (get_or xs i 0) → c ≡ cond t (b ++ y ∷ []) b → t ≡ true → c ≡ a ++ map f (take (i + 1) xs)
-map_said_more f a b c xs i y t h l z k ok =
-    let m : map f (take (i + 1) xs) ≡ map f (take i xs) ++ f (get_or xs i 0) ∷ [] = map_more f xs i 0 l in
-    let u : a ++ map f (take i xs) ++ f (get_or xs i 0) ∷ [] ≡ a ++ (map f (take i xs) ++ f (get_or xs i 0) ∷ []) = append_assoc a (map f (take i xs)) (f (get_or xs i 0) ∷ []) in
-    let v : c ≡ b ++ y ∷ [] = at_ok c (b ++ y ∷ []) b t k ok in
-    cc
-
--- one more rule
-pub joined_said_more : {X : Type 0} (f : X → List ℕ) (a b c : List ℕ) (xs : List X) (i : ℕ) (x : X) → b ≡ a ++ flat_map f (take i xs) → i < length xs → x ≡ get_or xs i x → c ≡ b ++ f x → c ≡ a ++ flat_map f (take (i + 1) xs)
-joined_said_more f a b c xs i x h l e k =
-    let t : take (i + 1) xs ≡ take i xs ++ get_or xs i x ∷ [] = take_more xs i x l in
-    let u : a ++ flat_map f (take i xs) ++ f x ≡ a ++ flat_map f (take i xs ++ x ∷ []) = flat_map_more f a (take i xs) x in
-    let v : take i xs ++ x ∷ [] ≡ take (i + 1) xs = cc in
-    let w : a ++ flat_map f (take i xs ++ x ∷ []) ≡ a ++ flat_map f (take (i + 1) xs) = ap (λ z. a ++ flat_map f z) v in
-    cc
 
 -- a rule's name and count, then its symbols
 pub rule_said_all : (f : ℕ → ℕ) (a b c us vs : List ℕ) (x y x' y' : ℕ) (t : Bool) → b ≡ cond t (a ++ (x ∷ y ∷ [])) a → t ≡ true → c ≡ b ++ map f us → x ≡ x' → y ≡ y' → us ≡ vs → c ≡ a ++ (x' ∷ y' ∷ map f vs)
@@ -63,10 +46,7 @@ text_said_more kind bs cs b t h l s k ok =
       good = every_push (λ z. ltb z 24) h.signs b h.good (lt-ltb b 24 s);
     }
 
--- bytes of names and of signs
-pub byte_ok_name : (p : ℕ) → p < 31 → byte_ok (33 + p) ≡ true
-byte_ok_name p l = grind arith
-
+-- the byte of a sign
 pub byte_ok_sign : (s : ℕ) → s < 24 → byte_ok s ≡ true
 byte_ok_sign s l = grind arith
 

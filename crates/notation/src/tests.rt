@@ -100,7 +100,10 @@ fn faults_lose_no_rule(rt: HostRuntime) -> Result<(), Fail> {
 #[test]
 fn rows_are_shown(rt: HostRuntime) -> Result<(), Fail> {
     let heap = rt.alloc();
-    assert_eq!(rt; shown::row_text(heap, &[1, 64, 0])?.as_str(), "shows 1 64 0");
+    assert_eq!(rt;
+        shown::row_text(heap, &[1, 64, 0])?.as_str(),
+        "shows 1 64 0"
+    );
     assert_eq!(rt; shown::row_text(heap, &[])?.as_str(), "shows");
     Ok(())
 }
