@@ -7,8 +7,7 @@ use Rattle.grammar.specs.declared.table.Table.{Table}
 use Rattle.grammar.specs.Grammar.{Sym, Grammar}
 use Rattle.grammar.specs.Places.{places}
 use Rattle.grammar.specs.Table.{Shows, ReadOff, code_in, symbol_in}
-use Rattle.grammar.proofs.Shown.{symbol_shown}
-use Rattle.grammar.proofs.Walks.{complete_at, symbol_at_lem}
+use Rattle.grammar.proofs.Shown.{symbol_shown, complete_at, symbol_at_lem}
 
 -- the code that is read at a place is the one that the table has
 code_read : {t : Table} {g : Grammar} → Shows t g → (p : ℕ) → p < places g → (c : ℕ) → c ≡ symbol_in t p → code_in t p ≡ c

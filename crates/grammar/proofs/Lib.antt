@@ -27,7 +27,7 @@ pub mod Tables
 mod Filling
 pub mod Marks
 pub mod Shown
-pub mod Walks
+pub mod RowBytes
 pub mod Slices
 pub mod RuleRows
 pub mod Behind

@@ -4,7 +4,7 @@ use Rattle.std.proofs.lemmas.Iterator.{YieldsList-from_slice}
 use Rattle.std.proofs.lemmas.Iterator.Consumers.{fold_from_yields_List}
 use Rattle.words.specs.Bits.{bit_of}
 use Rattle.grammar.specs.Rows.{named}
-use Rattle.grammar.proofs.Walks.{named_codes, read_codes}
+use Rattle.grammar.proofs.RowBytes.{named_codes, read_codes}
 use Rattle.grammar.proofs.rows.row_names.Goals as goal
 
 pub returns : goal.returns

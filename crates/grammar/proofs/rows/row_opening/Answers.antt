@@ -1,7 +1,7 @@
 use Rattle.std.proofs.Common.{sym, ap, ◌∙◌, arith}
 use lib.Bits.{bit_or}
 use Rattle.grammar.specs.Rows.{opening}
-use Rattle.grammar.proofs.Walks.{opened_sign, opened_end, opened_more, opened_all, read_codes}
+use Rattle.grammar.proofs.RowBytes.{opened_sign, opened_end, opened_more, opened_all, read_codes}
 use Rattle.grammar.proofs.rows.row_opening.Goals as goal
 
 pub returns-then-code-lt-FIRST_NAME : goal.returns-then-code-lt-FIRST_NAME

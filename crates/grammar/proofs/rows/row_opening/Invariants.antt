@@ -1,4 +1,4 @@
-use Rattle.grammar.proofs.Walks.{OpenedTo}
+use Rattle.grammar.proofs.RowBytes.{OpenedTo}
 use Rattle.grammar.proofs.rows.row_opening.Given as goal
 
 abbrev pub invariant-loop-code : goal.invariant-loop-code

@@ -3,7 +3,7 @@ use Rattle.std.proofs.lemmas.Iterator.{YieldsList-from_slice}
 use Rattle.std.proofs.lemmas.Iterator.Search.{all_from_yields_List}
 use Rattle.words.specs.Bits.{has_bit}
 use Rattle.grammar.specs.Rows.{producing}
-use Rattle.grammar.proofs.Walks.{producing_codes, read_codes}
+use Rattle.grammar.proofs.RowBytes.{producing_codes, read_codes}
 use Rattle.grammar.proofs.rows.row_produces.Goals as goal
 
 pub returns : goal.returns

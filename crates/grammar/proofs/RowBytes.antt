@@ -1,8 +1,7 @@
 -- The bytes of the row that comes at a place, and what is read off them.
---     complete_at, symbol_at_lem      what the code at a place says of the row
---     vanishing_codes, producing_codes, opening_more, opening_end, named_codes      what is read off a row of bytes, and byte by byte
+--     vanishing_codes, producing_codes, opened_sign, opened_end, opened_more, opened_all, named_codes      what is read off a row of bytes, and byte by byte
 --     read_codes      and that it is read off the row at the place
-use Rattle.std.proofs.Common.{◌≡◌, ℕ, ◌+◌, ◌-◌, ◌<◌, ◌≤◌, Bool, cond, false, true, ◌&&◌, ◌||◌, ltb, leb, List, [], ◌∷◌, length, get_or, drop, sym, refl, ap, ◌∙◌, inl, inr, add-one, arith}
+use Rattle.std.proofs.Common.{◌≡◌, ℕ, ◌+◌, ◌-◌, ◌<◌, ◌≤◌, Bool, cond, false, true, ◌&&◌, ◌||◌, ltb, leb, List, [], ◌∷◌, length, get_or, drop, sym, refl, ap, ◌∙◌, inl, inr}
 use lib.Bits.{bit_or, or_zero_r}
 use Rattle.std.specs.List.{fold, list_all}
 use Rattle.std.proofs.lemmas.List.{drop_all, drop_more}
@@ -10,48 +9,13 @@ use Rattle.std.proofs.lemmas.Bool.{cases_lt, lt-ltb, le-ltb, le-leb, lt-leb}
 use Rattle.words.specs.Bits.{has_bit, bit_of}
 use Rattle.words.proofs.RowLaws.{or_assoc}
 use Rattle.grammar.specs.declared.table.Table.{Table}
-use Rattle.grammar.specs.Grammar.{pick, each, Sym, sign, name, Grammar}
+use Rattle.grammar.specs.Grammar.{pick, each, Sym}
 use Rattle.grammar.specs.Spelling.{sym_of}
-use Rattle.grammar.specs.Places.{places, rest, next_code}
+use Rattle.grammar.specs.Places.{rest}
 use Rattle.grammar.specs.Rows.{vanishing, producing, opening, named}
-use Rattle.grammar.specs.Table.{Shows, ReadOff, RowAt, code_in}
+use Rattle.grammar.specs.Table.{ReadOff, RowAt}
 use Rattle.grammar.proofs.Spelled.{syms_of_spelled}
-use Rattle.grammar.proofs.Places.{place_next, rest_fits, code_range, code_complete, code_sign, code_name}
-
--- ---- the code at a place
-
-sym_of_sign : (b : ℕ) → b < 32 → sym_of b ≡ sign b
-sym_of_sign b h = rw (lt-ltb b 32 h)
-
-sym_of_name : (b : ℕ) → 32 ≤ b → sym_of b ≡ name (b - 32)
-sym_of_name b h = rw (le-ltb b 32 h)
-
-module _ {t : Table} {g : Grammar} (s : Shows t g) (p : ℕ) (h : p < places g) where
-  pub complete_at : 64 ≤ code_in t p → rest g p ≡ []
-  complete_at k =
-      let fit = rest_fits g p s.fits in
-      let e = s.holds.symbols p h in
-      let full : next_code (rest g p) ≡ 64 =
-      elim (code_range (rest g p) fit) [ inl l ↦ absurd (omega arith) | inr (inl l) ↦ absurd (omega (arith, l.1)) | inr (inr l) ↦ l ] in
-      code_complete (rest g p) fit full
-
-  next_at : (x : Sym) (γ : List Sym) → rest g p ≡ x ∷ γ → (rest g p ≡ x ∷ rest g (p + 1)) × (p + 1 < places g)
-  next_at x γ e =
-      let n = place_next g p x γ e in
-      (e ∙ ap (λ β. x ∷ β) (sym (ap (rest g) (add-one p) ∙ n.rests)), omega (arith, n.within))
-
-  pub symbol_at_lem : code_in t p < 64 → (rest g p ≡ sym_of (code_in t p) ∷ rest g (p + 1)) × (p + 1 < places g)
-  symbol_at_lem k =
-      let e = s.holds.symbols p h in
-      let c = next_code (rest g p) in
-      let x : (γ : List Sym) × (rest g p ≡ sym_of (next_code (rest g p)) ∷ γ) =
-      elim (cases_lt (next_code (rest g p)) 32) [
-        | inl l ↦ let f = code_sign (rest g p) l in (f.0, f.1 ∙ ap (λ y. y ∷ f.0) (sym (sym_of_sign c l)))
-        | inr l ↦
-            let f = code_name (rest g p) (rest_fits g p s.fits) l (omega arith) in
-            (f.0, f.1 ∙ ap (λ y. y ∷ f.0) (sym (sym_of_name c l)))
-      ] in
-      next_at (sym_of (code_in t p)) x.0 (x.1 ∙ ap (λ b. sym_of b ∷ x.0) (sym e))
+use Rattle.grammar.proofs.Places.{rest_fits}
 
 -- ---- what is read off, by the code of the first symbol
 
