@@ -19,6 +19,11 @@ use Rattle.conflicts.specs.PairSteps.{Found}
 abbrev FirstBelow : {B : Type 0} → ℕ → (ℕ → Option B → Type 0) → Option B → Type 0
 FirstBelow n P r = MatchOption r ((k : ℕ) → k < n → P k None) (λ y. (i : ℕ) × (i < n) × P i (Some y) × ((k : ℕ) → k < i → P k None))
 
+-- what each call says of what it gives
+pub found_says : {B : Type 0} (n : ℕ) (P : Option B → Type 0) → P None → (r : Option B) → FirstBelow n (λ k. P) r → P r
+found_says n P none None h = none
+found_says n P none (Some y) h = h.2
+
 item_if : (Q : ℕ → Type 0) (o : Option ℕ) (k : ℕ) → option_map (λ y. y) o ≡ Some k → IfSome o Q → Q k
 item_if Q None k e h = absurd (cc)
 item_if Q (Some x) k e h = let i : x ≡ k = cc in subst Q i h

@@ -1,5 +1,5 @@
 -- What the code that finds pairs and clashes answers, where a table shows a grammar. Assumes nothing: these are definitions.
-use Rattle.std.specs.Prelude.{◌≡◌, ℕ, ◌<◌, List, [], ◌∷◌, Some, None, Option, unwrap_or}
+use Rattle.std.specs.Prelude.{◌≡◌, ℕ, ◌<◌, List, [], ◌∷◌, length, Some, None, Option, IfSome, unwrap_or}
 use Rattle.words.specs.Rows.{or_at}
 use Rattle.grammar.specs.declared.prepared.Prepared.{Prepared}
 use Rattle.grammar.specs.declared.table.Table.{Table}
@@ -35,6 +35,10 @@ clash_told c = record { due = c.due; other = unwrap_or c.other 64; ahead = c.ahe
 abbrev pub Found : Option ClashFound → List Clash → Type 0
 Found None cs = cs ≡ []
 Found (Some c) cs = cs ≡ clash_told c ∷ []
+
+-- the other rule of a clash, if there is one, is a rule of the grammar: none alone is for going on
+abbrev pub OtherIsRule : Grammar → Option ClashFound → Type 0
+OtherIsRule g r = IfSome r (λ c. IfSome c.other (λ k. k < length g))
 
 -- what an answer says of a grammar whose names are all of use: one look ahead is enough, or this is a clash
 abbrev pub Tells : Grammar → Option ClashFound → Type 0

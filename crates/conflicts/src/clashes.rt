@@ -8,7 +8,7 @@ ghost use Rattle.grammar.specs.Places.{places};
 ghost use Rattle.grammar.specs.Prepared.{Describes};
 ghost use Rattle.grammar.specs.Table.{Shows};
 ghost use Rattle.conflicts.specs.Pairs.{advance_pair, begun_both_lem as begun_both_of, begun_own as begun_own_of, clash_among_lem as clash_among_of, clash_at as clash_at_of, clash_in_row_lem as clash_in_row_of, clash_mask as clash_mask_of, clash_of, close_pair_lem, pair_round_lem as pair_round_of, pair_step as pair_step_of, pairs, word_of as word_of_parts};
-ghost use Rattle.conflicts.specs.PairSteps.{Found, ShownAt, Steps, StepsAt, Tells, begin_with};
+ghost use Rattle.conflicts.specs.PairSteps.{Found, OtherIsRule, ShownAt, Steps, StepsAt, Tells, begin_with};
 
 use crate::pair::Pair;
 use grammar::analysis::Analysis;
@@ -205,7 +205,8 @@ fn clash_mask(work: &[u64], table: &Table, pair: Pair) -> u64
 
 /// The clash at a pair, with the lowest sign.
 fn clash_at(work: &[u64], table: &Table, pair: Pair) -> Option<ClashFound>
-    ensures { ShownAt table.now pair.first pair.second (λ g. Found result (clash_at_of g work.now pair.first pair.second)) }
+    ensures value { ShownAt table.now pair.first pair.second (λ g. Found result (clash_at_of g work.now pair.first pair.second)) }
+    ensures other { ShownAt table.now pair.first pair.second (λ g. OtherIsRule g result) }
 {
     let mask = clash_mask(work, table, pair);
     if mask == 0 {
@@ -222,14 +223,16 @@ fn clash_at(work: &[u64], table: &Table, pair: Pair) -> Option<ClashFound>
 /// The first clash at `p`, in the order of the other place.
 fn clash_in_row(work: &[u64], table: &Table, p: usize) -> Option<ClashFound>
     requires { p < 192 }
-    ensures { ShownAt table.now p p (λ g. Found result (clash_in_row_of g work.now p)) }
+    ensures value { ShownAt table.now p p (λ g. Found result (clash_in_row_of g work.now p)) }
+    ensures other { ShownAt table.now p p (λ g. OtherIsRule g result) }
 {
     (0..place_count(table)).find_map(|q| clash_at(work, table, Pair::new(p, q)))
 }
 
 /// The first clash, in the order of places.
 fn clash_among(work: &[u64], table: &Table) -> Option<ClashFound>
-    ensures { (g : Grammar) → Shows table.now g → Found result (clash_among_of g work.now) }
+    ensures value { (g : Grammar) → Shows table.now g → Found result (clash_among_of g work.now) }
+    ensures other { (g : Grammar) → Shows table.now g → OtherIsRule g result }
 {
     (0..place_count(table)).find_map(|p| clash_in_row(work, table, p))
 }
@@ -239,6 +242,7 @@ pub fn find_clash(work: &mut [u64], grammar: &Prepared) -> Option<ClashFound>
     ensures untouched { (length work.old ≢ 36864) → (result ≡ None) × (work.new ≡ work.old) }
     ensures cleared { length work.old ≡ 36864 → work.new ≡ replicate 36864 0 }
     ensures value { (g : Grammar) → Describes grammar.now g → length work.old ≡ 36864 → Found result (clash_of g) }
+    ensures other { (g : Grammar) → Describes grammar.now g → OtherIsRule g result }
     ensures meaning { (g : Grammar) → Describes grammar.now g → length work.old ≡ 36864 → AllUseful g → Tells g result }
 {
     if work.len() != WORDS {

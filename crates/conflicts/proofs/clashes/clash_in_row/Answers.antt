@@ -1,12 +1,17 @@
 use Rattle.std.proofs.Common.{refl, rules}
 use Rattle.grammar.specs.Places.{places}
 use Rattle.conflicts.specs.Pairs.{clash_at}
-use Rattle.conflicts.specs.PairSteps.{Found}
-use Rattle.conflicts.proofs.Scanning.{found_below, scan_of}
+use Rattle.conflicts.specs.PairSteps.{Found, OtherIsRule}
+use Rattle.conflicts.proofs.Scanning.{found_below, found_says, scan_of}
 use Rattle.conflicts.proofs.clashes.clash_in_row.Goals as goal
 
-pub returns : goal.returns
-returns c g s h k =
+pub returns-clause-value : goal.returns-clause-value
+returns-clause-value c g s h k =
     scan_of (clash_at g c.args.work.now c.args.p) (places g) _
     (found_below (places g) (λ q y. Found y (clash_at g c.args.work.now c.args.p q)) refl (c.place_count.ensures.value g s)
     (search rules) (λ q y l h. search rules) _ c.find_map.ensures.runs)
+
+pub returns-clause-other : goal.returns-clause-other
+returns-clause-other c g s h k =
+    found_says (places g) (OtherIsRule g) tt _
+    (found_below (places g) (λ p. OtherIsRule g) refl (c.place_count.ensures.value g s) (search rules) (λ p y l h. search rules) _ c.find_map.ensures.runs)

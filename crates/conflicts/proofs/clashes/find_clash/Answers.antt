@@ -16,11 +16,11 @@ unfolding clash_of
 found_among g r work e h = subst (λ w. Found r (clash_among_lem g w)) e h
 
 pub returns-clause-value : goal.returns-clause-value
-returns-clause-value c g d long = found_among g _ _ (c.saturate.ensures g d long) (c.clash_among-clash.ensures g d.shows)
+returns-clause-value c g d long = found_among g _ _ (c.saturate.ensures g d long) (c.clash_among-clash.ensures.value g d.shows)
 
 pub returns-clause-meaning : goal.returns-clause-meaning
 returns-clause-meaning c g d long useful =
-    found_tells g d.shows.fits useful _ (found_among g _ _ (c.saturate.ensures g d long) (c.clash_among-clash.ensures g d.shows))
+    found_tells g d.shows.fits useful _ (found_among g _ _ (c.saturate.ensures g d long) (c.clash_among-clash.ensures.value g d.shows))
 
 pub returns-clause-cleared : goal.returns-clause-cleared
 returns-clause-cleared c long = let n : length c.saturate.new.work ≡ 36864 = omega arith in c.zeroes.ensures ∙ ap (λ k. replicate k 0) n
