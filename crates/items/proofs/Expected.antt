@@ -1,5 +1,5 @@
 -- The signs before which there is an action: at one place by its symbol and its word, and from place to place.
-use Rattle.std.proofs.Common.{◌≡◌, ℕ, ◌+◌, ◌<◌, ◌≤◌, Bool, true, false, not, ◌&&◌, ◌||◌, eqb, ltb, ◌⊎◌, List, [], ◌∷◌, sym, refl, ap, ◌∙◌, ap₂, inl, inr, ⊎_elim, arith}
+use Rattle.std.proofs.Common.{◌≡◌, ℕ, ◌+◌, ◌<◌, ◌≤◌, Bool, true, false, not, ◌&&◌, ◌||◌, eqb, ltb, ◌⊎◌, List, [], ◌∷◌, sym, refl, ap, ◌∙◌, ap₂, inl, inr, ⊎_elim, slice_index, arith}
 use lib.Bits.{bit_or}
 use Rattle.std.proofs.lemmas.Bool.{and_right, cases_lt, cases_eq, lt-ltb, le-ltb, eq-eqb, ne_eqb}
 use Rattle.words.specs.Bits.{has_bit, bit_of}
@@ -7,7 +7,10 @@ use Rattle.words.specs.Iter.{counted}
 use Rattle.words.proofs.BitLaws.{has_or, has_zero, has_bit_of}
 use Rattle.words.proofs.Fixpoint.{counted_more}
 use Rattle.grammar.specs.Grammar.{pick, none_of, Grammar}
-use Rattle.grammar.specs.Places.{owner}
+use Rattle.grammar.specs.Places.{places, owner}
+use Rattle.grammar.specs.Table.{Shows, symbol_in}
+use Rattle.grammar.specs.declared.table.Table.{Table}
+use Rattle.grammar.proofs.Shown.{symbol_shown}
 use Rattle.items.specs.Sets.{reduce_place, shift_place}
 use Rattle.items.specs.Actions.{reduces_place, shifts_place}
 
@@ -43,6 +46,11 @@ module _ (x w t : ℕ) where
       (λ e. let l : ltb t 24 ≡ true = lt-ltb t 24 (omega arith) in rw (few, other, ne_eqb w 0 n, l, eq-eqb t x e, eq-eqb x t (sym e)) refl)
       (λ d. rw (few, other, ne_eqb t x d, ne_eqb x t (λ e. d (sym e)), and_right (ltb t 24) false refl) refl)
       (cases_eq t x)
+
+-- and of a place that the table shows
+module _ {table : Table} {g : Grammar} (shows : Shows table g) (s : List ℕ) where
+  pub acts_shown : (p x w t : ℕ) → p < places g → x ≡ symbol_in table p → w ≡ slice_index s p → Acts x w t ≡ (reduces_place g s t p || shifts_place g s t p)
+  acts_shown p x w t h e d = ap₂ (λ y v. Acts y v t) (e ∙ symbol_shown shows p h) d
 
 -- ---- from place to place
 
