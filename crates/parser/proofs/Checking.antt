@@ -1,5 +1,5 @@
 -- A silent run of the parser that is driven by item sets says what the run it stands for says.
-use Rattle.std.proofs.Common.{◌≡◌, ℕ, zero, suc, ◌+◌, ◌<◌, ◌≤◌, Bool, true, false, ◌&&◌, eqb, ltb, leb, ◌⊎◌, List, [], ◌∷◌, ◌++◌, length, get_or, sym, refl, ap, ◌∙◌, subst, inl, inr, append-nil, arith, length-append}
+use Rattle.std.proofs.Common.{◌≡◌, ℕ, ◌+◌, ◌≤◌, Bool, true, false, ◌&&◌, eqb, ltb, leb, ◌⊎◌, List, [], ◌∷◌, ◌++◌, length, get_or, sym, refl, ap, ◌∙◌, subst, inl, inr, append-nil, arith, length-append}
 use Rattle.std.proofs.lemmas.Bool.{and_parts, ltb-true, leb-true, eqb-true, eq-eqb}
 use Rattle.words.specs.Packed.{stacked}
 use Rattle.grammar.specs.Grammar.{pick, every, each, backwards, Sym, sign, name, Grammar, a_grammar, AllUseful, sym_fits}
@@ -12,14 +12,14 @@ use Rattle.items.proofs.Fits.{stack_fits}
 use Rattle.conflicts.specs.Conflicts.{NoConflict}
 use Rattle.parser.specs.Runs.{Run}
 use Rattle.parser.specs.Moves.{Stuck}
-use Rattle.parser.specs.Drive.{Config, Moved, moved, accepted, wrong, ending, on_moved, run_for, check_of}
+use Rattle.parser.specs.Drive.{Config, accepted, wrong, ending, Halt, check_of}
 use Rattle.parser.specs.DriveStatements.{most_symbols, most_moves, Checked}
 use Rattle.parser.proofs.Sound.{made_accepts}
 use Rattle.parser.proofs.Reached.{SomeItem, Accepted, reached}
-use Rattle.parser.proofs.MoveBound.{moves_bounded}
 use Rattle.parser.proofs.Wrong.{stuck_wrong}
-use Rattle.parser.proofs.Stands.{Stands, height_is, start_stands}
-use Rattle.parser.proofs.DriveMoves.{Move, by_shift, by_reduce, by_none, move}
+use Rattle.parser.proofs.Stands.{Stands, height_is}
+use Rattle.parser.proofs.CheckRun.{ending_at, ending_here}
+use Rattle.parser.proofs.Halting.{Halted, at_last, at_stuck, run_halts}
 
 -- a symbol that fits is not spelled as the beginning's name is
 not_the_start : (x : Sym) → sym_fits x ≡ true → sym_spelled x ≡ 32 → ⊥
@@ -77,30 +77,12 @@ module _ (g : Grammar) (fits : a_grammar g ≡ true) (useful : AllUseful g) (onc
           let q = ltb-true t 24 (every_at (λ t. ltb t 24) us t σ (subst (λ x. every (λ t. ltb t 24) x ≡ true) (st.text ∙ ap (λ x. us ++ x) e) signs)) in
           absurd (omega arith)
 
-  abbrev Limits : ℕ → Type 0
-  Limits limit = (γ : List Sym) (us ρ rs : List ℕ) → ts ≡ us ++ ρ → Run g [] us γ ρ rs → length us + length rs < limit
-
-  -- so many moves that there are no more
-  run_checked : (limit : ℕ) → Limits limit → (n : ℕ) {c : Config} {γ : List Sym} {us ρ rs : List ℕ} → Stands g ts c γ us ρ rs → limit ≤ length us + length rs + n →
-      Checked g ts (run_for n g ts c)
-  unfolding run_for on_moved
-  run_checked limit few zero {γ = γ} {us} {ρ} {rs} st h = let k = few γ us ρ rs st.text st.run in absurd (omega arith)
-  run_checked limit few (suc n) {c} {γ} {us} {ρ} {rs} st h =
-      go (moved g ts c) (move g fits useful once ts st) (λ d γ₁ us₁ ρ₁ rs₁ st₁ h₁. run_checked limit few n st₁ h₁)
-    where
-      go : (m : Moved) → Move g ts γ us ρ rs m →
-          ((d : Config) (γ₁ : List Sym) (us₁ ρ₁ rs₁ : List ℕ) → Stands g ts d γ₁ us₁ ρ₁ rs₁ → limit ≤ length us₁ + length rs₁ + n → Checked g ts (run_for n g ts d)) →
-          Checked g ts (on_moved (run_for n g ts) (ending ts c) m)
-      go _ (by_shift t σ d e can st₁) ih = ih d _ _ _ _ st₁ (omega (arith, length-append us (t ∷ [])))
-      go _ (by_reduce r d v st₁) ih = ih d _ _ _ _ st₁ (omega (arith, length-append rs (r ∷ [])))
-      go _ (by_none k) ih = ending_checked st k
-
+  -- a run until more signs are taken than there are comes to its end where it is stuck
   pub check_checked : (n : ℕ) → length ts ≤ n → (room moves : ℕ) → most_symbols n ≤ room → most_moves n ≤ moves → Checked g ts (check_of g ts room moves)
-  unfolding check_of most_moves
-  check_checked n short room moves hr hm = run_checked (most_moves n) few moves (start_stands g ts room enough) (omega arith)
+  unfolding ending_at
+  check_checked n short room moves hr hm =
+      subst (λ e. Checked g ts e) (ending_here g ts room moves refl refl refl) (go _ (run_halts g fits useful once ts n short (length ts + 1) room moves hr hm))
     where
-      enough : most_symbols (length ts) ≤ room
-      enough = omega arith
-
-      few : Limits (most_moves n)
-      few γ us ρ rs e R = moves_bounded g (sizes g fits) once useful n (omega (arith, ap length e)) R
+      go : (h : Halt) → Halted g ts (length ts + 1) h → Checked g ts (ending_at ts h)
+      go _ (at_last c γ us ρ rs st h any) = absurd (omega (arith, st.took, ap length st.text, length-append us ρ))
+      go _ (at_stuck c γ us ρ rs st k l) = ending_checked st k

@@ -32,7 +32,7 @@ fn clear(stack: &mut [u64], state: &mut State)
     *state = State {
         height: 0,
         taken: 0,
-        items: ItemSet { words: [0; 192] },
+        items: ItemSet::default(),
     };
 }
 
