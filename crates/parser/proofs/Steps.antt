@@ -1,4 +1,4 @@
--- The parts of one move: where rules begin, what an action says, and a symbol pushed.
+-- The parts of one move: the item set behind one symbol more, what an action says, and a symbol pushed.
 use Rattle.std.proofs.Common.{◌≡◌, ℕ, zero, suc, ◌+◌, ◌-◌, ◌<◌, ◌≤◌, Bool, true, false, ◌&&◌, eqb, List, [], ◌∷◌, length, get_or, set, sym, refl, ap, ◌∙◌, ⊎_elim, arith}
 use mathlib.Core.Bool.{false≢true}
 use Rattle.std.proofs.lemmas.List.{get_or_past}
@@ -7,26 +7,11 @@ use Rattle.words.specs.Bits.{has_bit}
 use Rattle.words.specs.Iter.{counted}
 use Rattle.words.specs.Packed.{stacked}
 use Rattle.grammar.specs.Grammar.{pick, none_of, Grammar, rule}
-use Rattle.grammar.specs.Places.{places, rest, owner, first_place_lem, next_code}
+use Rattle.grammar.specs.Places.{places, rest, owner, next_code}
 use Rattle.grammar.proofs.Lists.{never}
 use Rattle.grammar.proofs.Places.{place_parts}
 use Rattle.items.specs.Sets.{goto, reduce_place, reduce_at, shift_place, shift_at}
 use Rattle.parser.specs.Drive.{items_of, Config, config, shifted, reduced, full, replace_handle, shift_move, reduce_move}
-
-pub first_place_next : (g : Grammar) (k : ℕ) → k < length g → first_place_lem g (suc k) ≡ first_place_lem g k + suc (length (rule g k).right)
-unfolding first_place_lem rule
-first_place_next [] k h = absurd (omega arith)
-first_place_next (r ∷ rs) zero h = first_none rs
-  where
-    first_none : (rs : Grammar) → suc (length r.right) + first_place_lem rs 0 ≡ 0 + suc (length r.right)
-    first_none [] = omega arith
-    first_none (x ∷ rs) = omega arith
-first_place_next (r ∷ rs) (suc k) h = omega (arith, first_place_next rs k (omega arith))
-
-pub first_place_all : (g : Grammar) → first_place_lem g (length g) ≡ places g
-unfolding first_place_lem places
-first_place_all [] = refl
-first_place_all (r ∷ rs) = ap (λ n. suc (length r.right) + n) (first_place_all rs)
 
 -- the item set behind one symbol more
 pub items_more : (g : Grammar) (cells : List ℕ) (k : ℕ) {s r : List ℕ} → r ≡ goto g (get_or cells k 0) s → s ≡ items_of g (stacked k cells) →

@@ -2,7 +2,6 @@
 ghost use Rattle.std.specs.Prelude.{◌≡◌, ◌+◌, ◌-◌, ◌^◌, ◌<◌, ◌≤◌, length, ◌==◌, slice_index_or};
 ghost use Rattle.words.specs.Packed.{stacked, unpacked};
 ghost use Rattle.grammar.specs.Grammar.{Grammar, pick, rule as rule_of};
-ghost use Rattle.grammar.specs.Places.{first_place_lem as first_place_of};
 ghost use Rattle.grammar.specs.Table.{Shows};
 ghost use Rattle.grammar.specs.Prepared.{Describes};
 ghost use Rattle.items.specs.Sets.{goto as goto_of};
@@ -43,24 +42,12 @@ pub fn items_behind(stack: &[u64], height: usize, grammar: &Prepared) -> ItemSet
     })
 }
 
-/// The place where a rule begins; behind the last rule, where there would be one more.
-fn first_place(table: &Table, rule: usize) -> usize
-    ensures { (g : Grammar) → Shows table.now g → rule ≤ length g → result ≡ first_place_of g rule }
-{
-    if rule < table.rules {
-        usize::from(table.first_of(rule))
-    } else {
-        table.places
-    }
-}
-
 /// How many symbols a rule has.
 fn symbols_of(table: &Table, rule: u8) -> usize
     ensures { (g : Grammar) → Shows table.now g → rule < length g → result ≡ length (rule_of g rule).right }
 {
-    let rule = usize::from(rule);
-    let begin = usize::from(table.first_of(rule));
-    first_place(table, rule + 1).saturating_sub(begin + 1)
+    let begin = usize::from(table.first_of(usize::from(rule)));
+    table.row_at(begin).len()
 }
 
 /// The code of the name that a rule is for.
@@ -148,7 +135,8 @@ pub fn move_once(
     ensures { (g : Grammar) → Describes grammar.now g → Told (moved g text.now (config_of stack.old state.old)) (config_of stack.old state.old) result (config_of stack.new state.new) }
 {
     let sign = lookahead(text, state.taken);
-    match action_at(&state.items, &grammar.table, sign).ok_or(Halt::Stuck)? {
+    let action = action_at(&state.items, &grammar.table, sign).ok_or(Halt::Stuck)?;
+    match action {
         Action::Reduce(rule) => reduce(stack, state, rule, grammar),
         Action::Shift => shift(stack, state, sign, grammar),
     }
