@@ -113,7 +113,7 @@ impl Table {
         Table {
             rules: 0,
             places: 0,
-            symbols: [0; 192],
+            symbols: [COMPLETE; 192],
             owners: [0; 192],
             heads: [Head { first: 0, left: 0 }; 64],
         }
