@@ -37,11 +37,20 @@ pub behind_set : (a n : ℕ) (m : List ℕ) (h p q r x y z w : ℕ) → h < a �
 behind_set a n m h p q r x y z w eh ep eq er =
     region_behind a n _ r w er ∙ region_behind a n _ q z eq ∙ region_behind a n _ p y ep ∙ region_behind a n m h x eh
 
-pub text_stored : (m ts ys : List ℕ) → ys ≡ over ts (region 262 4096 (set (set (set (set m 258 1) 259 0) 260 0) 261 (length ts))) →
+text_kept : (m ts ys : List ℕ) → ys ≡ over ts (region 262 4096 (set (set (set (set m 258 1) 259 0) 260 0) 261 (length ts))) →
     put_mid 262 4096 (set (set (set (set m 258 1) 259 0) 260 0) 261 (length ts)) ys ≡ with_text ts m
-text_stored m ts ys e =
+text_kept m ts ys e =
     put_replaced 262 4096 4358 (set (set (set (set m 258 1) 259 0) 260 0) 261 (length ts)) ys (over ts (region 262 4096 m)) refl
     (e ∙ ap (over ts) (behind_set 262 4096 m 258 259 260 261 1 0 0 (length ts) (omega arith) (omega arith) (omega arith) (omega arith)))
+
+-- the phase is that of a text that is told
+pub text_stored : (m ts ys : List ℕ) (k : ℕ) → k ≡ 1 → ys ≡ over ts (region 262 4096 (set (set (set (set m 258 k) 259 0) 260 0) 261 (length ts))) →
+    put_mid 262 4096 (set (set (set (set m 258 k) 259 0) 260 0) 261 (length ts)) ys ≡ with_text ts m
+text_stored m ts ys k h =
+    subst
+    (λ (j : ℕ). ys ≡ over ts (region 262 4096 (set (set (set (set m 258 j) 259 0) 260 0) 261 (length ts))) →
+    put_mid 262 4096 (set (set (set (set m 258 j) 259 0) 260 0) 261 (length ts)) ys ≡ with_text ts m)
+    (sym h) (text_kept m ts ys)
 
 -- LOW BYTES, one after the other
 pub bytes_more : (ws bs now : List ℕ) (i : ℕ) → i < length ws → length ws ≡ length bs → now ≡ take i (each low_byte ws) ++ drop i bs →

@@ -1,9 +1,10 @@
 -- The last name from behind: nothing found from an index on, then one more.
-use Rattle.std.proofs.Common.{◌≡◌, ℕ, zero, suc, ◌+◌, ◌<◌, ◌≤◌, Bool, true, false, leb, List, [], ◌∷◌, length, get_or, drop, sym, refl, ap, ◌∙◌, add-one, arith}
+use Rattle.std.proofs.Common.{◌≡◌, ℕ, zero, suc, ◌+◌, ◌-◌, ◌<◌, ◌≤◌, Bool, true, false, leb, List, [], ◌∷◌, length, get_or, drop, refl, ap, ◌∙◌, add-one, arith}
+use Rattle.std.specs.Prelude.{Option, Some, None, Ok, Err, MatchOption, EachIndex}
+use Rattle.std.proofs.lemmas.Bool.{lt-leb, le-leb}
 use Rattle.std.proofs.lemmas.List.{drop_more, drop_all}
 use Rattle.grammar.specs.Grammar.{pick, none_of}
-use Rattle.reader.specs.declared.Reply.{Reply}
-use Rattle.reader.specs.declared.Reply.TheVariants.{Refused}
+use Rattle.reader.specs.declared.refusal.Refusal.TheVariants.{NoCommand}
 use Rattle.reader.specs.Entry.{last_place, place_told, PlaceSays}
 
 abbrev pub NothingFrom : List ℕ → ℕ → Type 0
@@ -39,10 +40,26 @@ place_found xs j h t n =
     let k : 0 + j ≡ j = omega arith in
     place_front j 0 xs j [] (rw k (place_at xs j h n ∙ ap (λ b. pick b (j ∷ []) []) t))
 
-pub says : (xs ps : List ℕ) (b : Bool) (r : Reply) → true ≡ b → last_place 0 xs ≡ ps → r ≡ place_told ps → PlaceSays xs b r
-unfolding PlaceSays
-says xs ps b r e l t = rw (← e) (t ∙ sym (ap place_told l))
+-- what the search from behind finds
+abbrev pub FoundLast : List ℕ → Option ℕ → Type 0
+FoundLast xs r = MatchOption r (EachIndex xs (λ k. get_or xs k 0 < 32))
+    (λ i. (i < length xs) × (32 ≤ get_or xs i 0) × EachIndex xs (λ k. i < k → get_or xs k 0 < 32))
 
-pub says_no : (xs : List ℕ) (b : Bool) → false ≡ b → PlaceSays xs b (Refused 1)
+nothing_from : (xs : List ℕ) (n i : ℕ) → i + n ≡ length xs → ((k : ℕ) → k < length xs → i ≤ k → get_or xs k 0 < 32) → NothingFrom xs i
+nothing_from xs zero i e h = from_end xs i (omega arith)
+nothing_from xs (suc n) i e h =
+    from_more xs i (omega arith) (lt-leb 32 _ (h i (omega arith) (omega arith))) (nothing_from xs n (i + 1) (omega arith) (λ k l b. h k l (omega arith)))
+
+pub last_found : (xs : List ℕ) (r : Option ℕ) → FoundLast xs r → r ≡ place_told (last_place 0 xs)
+unfolding place_told
+last_found xs None h = rw (nothing_from xs (length xs) 0 (omega arith) (λ k l b. h k l))
+last_found xs (Some i) h =
+    rw (place_found xs i h.0 (le-leb 32 _ h.1) (nothing_from xs (length xs - (i + 1)) (i + 1) (omega (arith, h.0)) (λ k l b. h.2 k l (omega arith))))
+
+pub says : (xs : List ℕ) (b : Bool) (r : Option ℕ) → true ≡ b → FoundLast xs r → PlaceSays xs b (Ok r)
+unfolding PlaceSays
+says xs b r e h = rw (← e) (ap Ok (last_found xs r h))
+
+pub says_no : (xs : List ℕ) (b : Bool) → false ≡ b → PlaceSays xs b (Err NoCommand)
 unfolding PlaceSays
 says_no xs b e = rw (← e) refl

@@ -24,3 +24,4 @@ mod Machine
 mod Main
 mod Running
 mod RunningTurns
+pub mod Tests

@@ -1,45 +1,41 @@
 -- A grammar that is loaded, as it is told: a name of no use, a clash, or done.
-use Rattle.std.proofs.Common.{◌≡◌, ℕ, ◌+◌, ◌-◌, ◌*◌, ◌≤◌, true, false, List, [], ◌∷◌, ◌++◌, length, take, drop, set, sym, refl, ap, ◌∙◌, arith, length-append}
-use Rattle.words.proofs.Regions.{length_region}
+use Rattle.std.proofs.Common.{◌≡◌, ℕ, ◌+◌, ◌*◌, ◌≤◌, true, false, List, [], ◌∷◌, ◌++◌, length, drop, set, sym, refl, ap, ◌∙◌, subst, ap₂, arith, length-append}
 use Rattle.grammar.specs.Grammar.{Grammar, Clash, added_up}
 use Rattle.grammar.specs.Spelling.{sym_spelled, flat, rule_spelled, grammar_spelled, grammar_ok, grammar_of, Spells}
 use Rattle.grammar.proofs.Spelled.{grammar_said, length_each}
 use Rattle.grammar.proofs.Sizes.{sizes}
 use Rattle.grammar.specs.Analysis.{useless}
 use Rattle.conflicts.specs.Pairs.{clash_of}
-use Rattle.reader.specs.declared.Told.TheVariants.{Shows, Done}
+use Rattle.reader.specs.declared.Told.{Told}
+use Rattle.reader.specs.declared.Told.TheVariants.{Done}
 use Rattle.reader.specs.Memory.{with_phase, cleared, with_spelling}
-use Rattle.reader.specs.Machine.{on_useless, on_clash, loads}
+use Rattle.reader.specs.Machine.{on_useless, on_clash, loads, refuses}
 use Rattle.reader.specs.Entry.{StepTold, ActTold}
 
 pub set_one : (out : List ℕ) (x : ℕ) → 1 ≤ length out → set out 0 x ≡ (x ∷ []) ++ drop 1 out
 set_one [] x h = absurd (omega arith)
 set_one (o ∷ out) x h = refl
 
-set_three : (out : List ℕ) (x y z : ℕ) → 3 ≤ length out → set (set (set out 0 x) 1 y) 2 z ≡ (x ∷ y ∷ z ∷ []) ++ drop 3 out
-set_three [] x y z h = absurd (omega arith)
-set_three (o ∷ []) x y z h = absurd (omega arith)
-set_three (o ∷ p ∷ []) x y z h = absurd (omega arith)
-set_three (o ∷ p ∷ q ∷ out) x y z h = refl
+module _ (pairs size : ℕ) (m out : List ℕ) (g : Grammar) (r : Told) (m₂ out₂ : List ℕ) where
+  pub useless_told : (n : ℕ) (row : List ℕ) → useless g ≡ n ∷ [] → row ≡ n ∷ [] → StepTold (refuses m 6 row) r out m₂ out₂ →
+      StepTold (loads pairs size m g) r out m₂ out₂
+  unfolding on_useless
+  useless_told n row e is s = rw e (subst (λ (x : List ℕ). StepTold (refuses m 6 x) r out m₂ out₂) is s)
 
-module _ (pairs size : ℕ) (m out : List ℕ) (g : Grammar) where
-  pub useless_told : (n : ℕ) → 1 ≤ length out → useless g ≡ n ∷ [] → StepTold (loads pairs size m g) (Shows 1) out (with_phase 6 m) (set out 0 n)
-  unfolding on_useless ActTold
-  useless_told n h e = rw e (refl, (refl, set_one out n h))
+  module _ (m₁ : List ℕ) (none : useless g ≡ []) (same : m₁ ≡ cleared pairs size m) where
+    pub clash_told : (c : Clash) (row : List ℕ) → clash_of g ≡ c ∷ [] → row ≡ c.due ∷ c.other ∷ c.ahead ∷ [] → StepTold (refuses m₁ 5 row) r out m₂ out₂ →
+        StepTold (loads pairs size m g) r out m₂ out₂
+    unfolding on_useless on_clash
+    clash_told c row e is s =
+        rw (none, e) (
+        subst (λ (x : List ℕ). StepTold (refuses x 5 (c.due ∷ c.other ∷ c.ahead ∷ [])) r out m₂ out₂) same
+        (subst (λ (x : List ℕ). StepTold (refuses m₁ 5 x) r out m₂ out₂) is s)
+        )
 
-  pub clash_told : (c : Clash) (m₁ : List ℕ) → 3 ≤ length out → useless g ≡ [] → clash_of g ≡ c ∷ [] → m₁ ≡ cleared pairs size m →
-      StepTold (loads pairs size m g) (Shows 3) out (with_phase 5 m₁) (set (set (set out 0 c.due) 1 c.other) 2 c.ahead)
-  unfolding on_useless on_clash ActTold
-  clash_told c m₁ h u e s = rw (u, e) (ap (with_phase 5) s, (refl, set_three out c.due c.other c.ahead h))
-
-  pub loaded_told : (bs m₁ : List ℕ) → useless g ≡ [] → clash_of g ≡ [] → grammar_spelled g ≡ bs → m₁ ≡ cleared pairs size m →
-      StepTold (loads pairs size m g) Done out (with_phase 0 (with_spelling bs m₁)) out
-  unfolding on_useless on_clash ActTold
-  loaded_told bs m₁ u e b s = rw (u, e) (ap (λ (l : List ℕ). with_phase 0 (with_spelling l m₁)) (sym b) ∙ ap (λ (l : List ℕ). with_phase 0 (with_spelling (grammar_spelled g) l)) s, (refl, refl))
-
--- a part of the memory that is lent
-pub lent_length : (a n : ℕ) (m : List ℕ) → a + n ≤ length m → length (take (a + n - a) (drop a m)) ≡ n
-lent_length a n m h = let e : a + n - a ≡ n = omega arith in rw e (length_region a n m h)
+    pub loaded_told : (bs : List ℕ) → clash_of g ≡ [] → grammar_spelled g ≡ bs → r ≡ Done → m₂ ≡ with_phase 0 (with_spelling bs m₁) → out₂ ≡ out →
+        StepTold (loads pairs size m g) r out m₂ out₂
+    unfolding on_useless on_clash ActTold
+    loaded_told bs e b is k o = rw (none, e) (k ∙ ap₂ (λ (x y : List ℕ). with_phase 0 (with_spelling x y)) (sym b) same, (is, o))
 
 -- what spells a grammar is not refused, and is short
 pub not_spelled : (bs : List ℕ) → grammar_ok bs ≡ true → Spells false bs → ⊥

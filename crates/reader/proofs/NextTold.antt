@@ -1,6 +1,5 @@
 -- What may come next, as its step is told to the world outside; and the row of signs that it shows.
-use Rattle.std.proofs.Common.{◌≡◌, ℕ, ◌+◌, ◌-◌, ◌*◌, ◌^◌, ◌<◌, ◌≤◌, Bool, true, false, List, [], ◌∷◌, ◌++◌, length, set, replicate, sym, refl, ap, ◌∙◌, subst, ap₂, append-nil, add-one, arith, length-append, length-set}
-use borrow.Rule.Slice.PartMut.{put_mid}
+use Rattle.std.proofs.Common.{◌≡◌, ℕ, ◌+◌, ◌-◌, ◌*◌, ◌^◌, ◌<◌, ◌≤◌, Bool, true, false, List, [], ◌∷◌, ◌++◌, length, set, sym, refl, ap, ◌∙◌, subst, ap₂, append-nil, add-one, arith, length-append, length-set}
 use Rattle.words.specs.Bits.{has_bit}
 use Rattle.grammar.specs.Grammar.{pick, Grammar}
 use Rattle.parser.specs.Rows.{passing}
@@ -8,12 +7,13 @@ use Rattle.parser.specs.Drive.{Following, followed_by, wrong_before, unknown, ne
 use Rattle.parser.specs.declared.next.Following.TheVariants.{Signs, Wrong, GaveOut}
 use Rattle.parser.specs.Told.{followed, signs_in}
 use Rattle.parser.proofs.Rows.{passing_push}
+use Rattle.reader.specs.declared.Told.{Told}
 use Rattle.reader.specs.declared.Told.TheVariants.{Shows, No}
-use Rattle.reader.specs.Memory.{Layout, moves_of, with_phase, cleared, over, loaded}
-use Rattle.reader.specs.Machine.{expects_with, expects, on_following}
+use Rattle.reader.specs.declared.refusal.Refusal.TheVariants.{NoGrammar, NoText}
+use Rattle.reader.specs.Memory.{Layout, moves_of, with_phase, over, loaded}
+use Rattle.reader.specs.Machine.{expects_with, expects, on_following, refuses}
 use Rattle.reader.specs.Entry.{StepTold, ActTold}
-use Rattle.reader.proofs.Loading.{set_one}
-use Rattle.reader.proofs.ReadTold.{laid, for_layout, after_cleared}
+use Rattle.reader.proofs.Lent.{Worked}
 
 -- THE ROW, sign by sign: those below i stand in front of what was there
 pub record SoFar (mask : ℕ) (out : List ℕ) (i many : ℕ) (out₁ : List ℕ) : Type 0 where
@@ -66,58 +66,26 @@ module _ (mask : ℕ) (out : List ℕ) (i many : ℕ) (out₁ : List ℕ) (so : 
 
 -- THE STEP
 module _ (l : Layout) (m ts out : List ℕ) where
-  pub expect_unloaded : loaded m ≡ [] → StepTold (expects l m ts) (No 3) out m out
+  pub expect_unloaded : loaded m ≡ [] → StepTold (expects l m ts) (No NoGrammar) out m out
   unfolding expects_with ActTold
-  expect_unloaded e = rw e (refl, (refl, refl))
+  expect_unloaded e = rw e (refl, ((NoGrammar, refl, refl), refl))
 
-  module _ (g : Grammar) (m₁ : List ℕ) (is : loaded m ≡ g ∷ []) (q : m₁ ≡ cleared l.work (l.fuel + l.stack) m) where
-    abbrev known : Following
-    known = next_of g ts (8 * l.stack) (moves_of l.fuel)
+  module _ (g : Grammar) (work m₁ : List ℕ) (is : loaded m ≡ g ∷ []) (w : Worked l m work m₁) where
+    known : (e : Following) → e ≡ next_of g ts (8 * (length work - l.fuel)) (2 ^ (64 * l.fuel) - 1) → e ≡ next_of g ts (8 * l.stack) (moves_of l.fuel)
+    unfolding moves_of
+    known e h =
+        let k : length work - l.fuel ≡ l.stack = omega (arith, w.long) in h ∙ ap (λ (n : ℕ). next_of g ts (8 * n) (2 ^ (64 * l.fuel) - 1)) k
 
-    expect_signs : (ks out₁ : List ℕ) → followed_by ks ≡ known → out₁ ≡ over ks out → StepTold (expects l m ts) (Shows (length ks)) out (with_phase 2 m₁) out₁
-    unfolding expects_with on_following ActTold
-    expect_signs ks out₁ e o = rw (is, ← e) (ap (with_phase 2) q, (refl, o))
+    pub signs_told : (mask k r : ℕ) (out₁ : List ℕ) → followed (Signs mask) ≡ next_of g ts (8 * (length work - l.fuel)) (2 ^ (64 * l.fuel) - 1) → k ≡ 2 →
+        r ≡ length (signs_in mask) → out₁ ≡ over (signs_in mask) out → StepTold (expects l m ts) (Shows r) out (with_phase k m₁) out₁
+    unfolding expects_with on_following ActTold followed
+    signs_told mask k r out₁ e p n o = rw (is, ← (known (followed_by (signs_in mask)) e)) (ap₂ with_phase p w.clear, (ap Shows n, o))
 
-    expect_wrong : (p : ℕ) → 1 ≤ length out → wrong_before p ≡ known → StepTold (expects l m ts) (Shows 1) out (with_phase 4 m₁) (set out 0 p)
-    unfolding expects_with on_following ActTold
-    expect_wrong p h e = rw (is, ← e) (ap (with_phase 4) q, (refl, set_one out p h))
+    pub wrong_told : (p : ℕ) (r : Told) (m₂ out₁ : List ℕ) → followed (Wrong p) ≡ next_of g ts (8 * (length work - l.fuel)) (2 ^ (64 * l.fuel) - 1) →
+        StepTold (refuses m₁ 4 (p ∷ [])) r out m₂ out₁ → StepTold (expects l m ts) r out m₂ out₁
+    unfolding expects_with on_following followed
+    wrong_told p r m₂ out₁ e s = rw (is, ← (known (wrong_before p) e)) (subst (λ (x : List ℕ). StepTold (refuses x 4 (p ∷ [])) r out m₂ out₁) w.clear s)
 
-    expect_unknown : unknown ≡ known → StepTold (expects l m ts) (No 4) out m₁ out
-    unfolding expects_with on_following ActTold
-    expect_unknown e = rw (is, ← e) (q, (refl, refl))
-
--- what the code has found out, and what it tells then
-module _ (w f s : ℕ) (m ts out work : List ℕ) (g : Grammar) (work₁ : List ℕ) (is : loaded m ≡ g ∷ []) (long : length work ≡ f + s)
-    (clear : work₁ ≡ replicate (length work) 0) where
-  abbrev after : List ℕ
-  after = put_mid w (w + (f + s) - w) m work₁
-
-  cleared_so : after ≡ cleared w (f + s) m
-  cleared_so = after_cleared w f s m ts out work g work₁ is long clear
-
-  room : (e : Following) → e ≡ next_of g ts (8 * (length work - f)) (2 ^ (64 * f) - 1) → e ≡ next_of g ts (8 * s) (moves_of f)
-  unfolding moves_of
-  room e h = let k : length work - f ≡ s = omega arith in h ∙ ap (λ (n : ℕ). next_of g ts (8 * n) (2 ^ (64 * f) - 1)) k
-
-  pub signs_told : (mask r : ℕ) (out₁ : List ℕ) → followed (Signs mask) ≡ next_of g ts (8 * (length work - f)) (2 ^ (64 * f) - 1) →
-      r ≡ length (signs_in mask) → out₁ ≡ over (signs_in mask) out →
-      (l : Layout) → l.work ≡ w → l.fuel ≡ f → l.stack ≡ s → StepTold (expects l m ts) (Shows r) out (with_phase 2 after) out₁
-  unfolding followed
-  signs_told mask r out₁ e n o =
-      for_layout (λ (l : Layout). StepTold (expects l m ts) (Shows r) out (with_phase 2 after) out₁) w f s
-      (λ x p q. subst (λ (k : ℕ). StepTold (expects (laid x p q w f s) m ts) (Shows k) out (with_phase 2 after) out₁) (sym n)
-      (expect_signs (laid x p q w f s) m ts out g after is cleared_so (signs_in mask) out₁ (room (followed_by (signs_in mask)) e) o))
-
-  pub wrong_told : (k : ℕ) → 1 ≤ length out → followed (Wrong k) ≡ next_of g ts (8 * (length work - f)) (2 ^ (64 * f) - 1) →
-      (l : Layout) → l.work ≡ w → l.fuel ≡ f → l.stack ≡ s → StepTold (expects l m ts) (Shows 1) out (with_phase 4 after) (set out 0 k)
-  unfolding followed
-  wrong_told k h e =
-      for_layout (λ (l : Layout). StepTold (expects l m ts) (Shows 1) out (with_phase 4 after) (set out 0 k)) w f s
-      (λ x p q. expect_wrong (laid x p q w f s) m ts out g after is cleared_so k h (room (wrong_before k) e))
-
-  pub unknown_told : followed GaveOut ≡ next_of g ts (8 * (length work - f)) (2 ^ (64 * f) - 1) →
-      (l : Layout) → l.work ≡ w → l.fuel ≡ f → l.stack ≡ s → StepTold (expects l m ts) (No 4) out after out
-  unfolding followed
-  unknown_told e =
-      for_layout (λ (l : Layout). StepTold (expects l m ts) (No 4) out after out) w f s
-      (λ x p q. expect_unknown (laid x p q w f s) m ts out g after is cleared_so (room unknown e))
+    pub unknown_told : followed GaveOut ≡ next_of g ts (8 * (length work - l.fuel)) (2 ^ (64 * l.fuel) - 1) → StepTold (expects l m ts) (No NoText) out m₁ out
+    unfolding expects_with on_following ActTold followed
+    unknown_told e = rw (is, ← (known unknown e)) (w.clear, ((NoText, refl, refl), refl))

@@ -3,6 +3,7 @@ use Rattle.std.proofs.Common.{◌≡◌, ℕ, List, [], ◌∷◌, refl}
 use Rattle.grammar.specs.Grammar.{Grammar}
 use Rattle.reader.specs.declared.Told.{Told}
 use Rattle.reader.specs.declared.Told.TheVariants.{No}
+use Rattle.reader.specs.declared.refusal.Refusal.TheVariants.{NoCommand, Unknown}
 use Rattle.reader.specs.House.{load, read_text, what_next}
 use Rattle.reader.specs.Decode.{decode}
 use Rattle.reader.specs.Promise.{said, next}
@@ -11,13 +12,13 @@ use Rattle.reader.specs.Machine.{answered, commanded, goes_on, loads, reads}
 use Rattle.reader.specs.Entry.{StepTold, ActTold}
 
 module _ (l : Layout) (m t out : List ℕ) where
-  pub none_refused : decode t ≡ [] → StepTold (answered l m (said t)) (No 1) out m out
+  pub none_refused : decode t ≡ [] → StepTold (answered l m (said t)) (No NoCommand) out m out
   unfolding answered ActTold commanded
-  none_refused e = rw e (refl, (refl, refl))
+  none_refused e = rw e (refl, ((NoCommand, refl, refl), refl))
 
-  pub what_next_refused : (ts : List ℕ) → decode t ≡ what_next ts ∷ [] → StepTold (answered l m (said t)) (No 2) out m out
+  pub what_next_refused : (ts : List ℕ) → decode t ≡ what_next ts ∷ [] → StepTold (answered l m (said t)) (No Unknown) out m out
   unfolding answered ActTold commanded
-  what_next_refused ts e = rw e (refl, (refl, refl))
+  what_next_refused ts e = rw e (refl, ((Unknown, refl, refl), refl))
 
   module _ (r : Told) (m₁ out₁ : List ℕ) where
     pub next_told : StepTold (goes_on l m) r out m₁ out₁ → StepTold (answered l m next) r out m₁ out₁

@@ -6,6 +6,7 @@ use Rattle.std.proofs.lemmas.Bool.{and_from, and_parts, le-leb, eq-eqb, eqb-true
 use Rattle.std.proofs.lemmas.Slice.{take-put_mid}
 use Rattle.grammar.specs.Grammar.{pick}
 use Rattle.grammar.specs.Spelling.{flat}
+use Rattle.reader.specs.declared.refusal.Refusal.{Refusal}
 use Rattle.reader.specs.declared.Told.{Told}
 use Rattle.reader.specs.declared.Told.TheVariants.{Shows, Done, No}
 use Rattle.reader.specs.House.{Loaded}
@@ -13,6 +14,7 @@ use Rattle.reader.specs.Promise.{Engine, Event, said, next, Act, shows, done, re
 use Rattle.reader.specs.Machine.{row_fits, sizes_fit}
 use Rattle.reader.specs.Entry.{own, own_layout, event_of, ActTold, StepTold, StepSays, step_fits}
 use Rattle.reader.specs.Holds.{Holds}
+use Rattle.reader.specs.Refusals.{refusal_code}
 use Rattle.reader.specs.Running.{row_told, room_for, refusal_number, RanSo, NoRoom}
 use Rattle.reader.proofs.Telling.{fits_is}
 use Rattle.reader.proofs.Running.{rows_push, room_push, no_room}
@@ -37,14 +39,17 @@ act_done : (f : List ℕ → List (List ℕ) → Ran) (ss : List (List ℕ)) (m 
 unfolding one_act ActTold
 act_done f ss m (shows s) out out₁ (e, p) = never (cc)
 act_done f ss m done out out₁ (e, p) = refl
-act_done f ss m (refused k) out out₁ (e, p) = never (cc)
+act_done f ss m (refused k) out out₁ ((x, e, c), p) = never (cc)
 
-act_refused : (f : List ℕ → List (List ℕ) → Ran) (ss : List (List ℕ)) (m : List ℕ) (a : Act) (k : ℕ) (b : Bool) (out out₁ : List ℕ) →
-    refusal_number k ≡ b → ActTold a (No k) out out₁ → one_act f ss m a ≡ ran m ss (pick b k 1001)
+act_refused : (f : List ℕ → List (List ℕ) → Ran) (ss : List (List ℕ)) (m : List ℕ) (a : Act) (x : Refusal) (b : Bool) (out out₁ : List ℕ) →
+    refusal_number (refusal_code x) ≡ b → ActTold a (No x) out out₁ → one_act f ss m a ≡ ran m ss (pick b (refusal_code x) 1001)
 unfolding one_act ActTold
-act_refused f ss m (shows s) k b out out₁ h (e, p) = never (cc)
-act_refused f ss m done k b out out₁ h (e, p) = never (cc)
-act_refused f ss m (refused j) k b out out₁ h (e, p) = let i : j ≡ k = cc in rw (i, h)
+act_refused f ss m (shows s) x b out out₁ h (e, p) = never (cc)
+act_refused f ss m done x b out out₁ h (e, p) = never (cc)
+act_refused f ss m (refused j) x b out out₁ h ((y, e, c), p) =
+    let s : x ≡ y = cc in
+    let i : j ≡ refusal_code x = sym c ∙ sym (ap refusal_code s) in
+    rw (i, h)
 
 record RowShown (a : Act) (n : ℕ) (out out₁ : List ℕ) : Type 0 where
   row : List ℕ
@@ -56,7 +61,7 @@ act_shows : (a : Act) (n : ℕ) (out out₁ : List ℕ) → ActTold a (Shows n) 
 unfolding ActTold
 act_shows (shows s) n out out₁ (e, p) = record { row = s; shows_it = refl; long = cc; lent = p }
 act_shows done n out out₁ (e, p) = never (cc)
-act_shows (refused k) n out out₁ (e, p) = never (cc)
+act_shows (refused k) n out out₁ ((x, e, c), p) = never (cc)
 
 one_shows : (f : List ℕ → List (List ℕ) → Ran) (ss : List (List ℕ)) (m s : List ℕ) → length s ≤ 32 → one_act f ss m (shows s) ≡ f m (ss ++ s ∷ [])
 unfolding one_act
@@ -129,8 +134,8 @@ module _ (m₀ t m shown : List ℕ) (kind used : ℕ) (s : Sofar m₀ t m shown
   done_so says = let x = own_told Done says in ended_so 0 x.0 (act_done _ _ _ _ _ _ x.1)
 
   -- 1001 is a fault
-  pub refused_so : (k : ℕ) (b : Bool) → refusal_number k ≡ b → Says (No k) → RanSo m₀ t m₁ shown (pick b k 1001) used
-  refused_so k b h says = let x = own_told (No k) says in ended_so _ x.0 (act_refused _ _ _ _ k b _ _ h x.1)
+  pub refused_so : (x : Refusal) (b : Bool) → refusal_number (refusal_code x) ≡ b → Says (No x) → RanSo m₀ t m₁ shown (pick b (refusal_code x) 1001) used
+  refused_so x b h says = let z = own_told (No x) says in ended_so _ z.0 (act_refused _ _ _ _ x b _ _ h z.1)
 
   module _ (n : ℕ) (says : Says (Shows n)) (lent₁ : length out₁ ≡ length out) where
     shown_row : RowShown (own.step m (event_of kind t)).act n out out₁

@@ -2,9 +2,12 @@ pub mod House
 pub mod Promise
 pub mod Decode
 pub mod Requests
+pub mod Refusals
 pub mod Memory
 pub mod Tables
 pub mod Machine
+pub mod Phases
 pub mod Entry
+pub mod Laid
 pub mod Holds
 pub mod Running

@@ -1,7 +1,9 @@
 -- What is promised of one command that is run to its end: how it went, and that it is answered as it may be. Assumes nothing: these are definitions.
 use Rattle.std.specs.Prelude.{◌≡◌, ℕ, zero, ◌<◌, ◌≤◌, Bool, ◌&&◌, List, [], ◌∷◌, ◌++◌, length, take, Some, None, Option, ◌≢◌, nat_le, nat_lt}
 use Rattle.grammar.specs.Spelling.{flat}
+use Rattle.reader.specs.declared.refusal.Refusal.{Refusal}
 use Rattle.reader.specs.declared.run.Ended.{Ended}
+use Rattle.reader.specs.Refusals.{refusal_code}
 use Rattle.reader.specs.House.{Loaded, core}
 use Rattle.reader.specs.Promise.{said, May, runs, ran}
 use Rattle.reader.specs.Entry.{own, own_layout}
@@ -18,6 +20,11 @@ NoRow xs = (row rest : List ℕ) → xs ≢ row_told row ++ rest
 -- how many numbers the rows take
 abbrev pub room_for : List (List ℕ) → ℕ
 room_for ss = length (flat row_told ss)
+
+-- the number of an end: 0 done, or that of the refusal
+abbrev pub end_of : Option Refusal → ℕ
+end_of None = 0
+end_of (Some e) = refusal_code e
 
 abbrev pub refusal_number : ℕ → Bool
 refusal_number k = nat_le 1 k && nat_lt k 1000
@@ -49,11 +56,11 @@ pub record NoRoom (old : Loaded) (t : List ℕ) (room : ℕ) : Type 0 where
 
 abbrev pub RunsToItsEnd : (m t : List ℕ) → Option Ended → (m₁ shown : List ℕ) → Type 0
 RunsToItsEnd m t None m₁ shown = zero ≡ zero
-RunsToItsEnd m t (Some w) m₁ shown = RanSo m t m₁ shown w.end w.used
+RunsToItsEnd m t (Some w) m₁ shown = RanSo m t m₁ shown (end_of w.refused) w.used
 
 abbrev pub AnswersAsItMay : (m t : List ℕ) → Option Ended → (m₁ shown : List ℕ) → Type 0
 AnswersAsItMay m t None m₁ shown = zero ≡ zero
-AnswersAsItMay m t (Some w) m₁ shown = (old : Loaded) → Holds own_layout m old → MaySo old t m₁ shown w.end w.used
+AnswersAsItMay m t (Some w) m₁ shown = (old : Loaded) → Holds own_layout m old → MaySo old t m₁ shown (end_of w.refused) w.used
 
 -- nothing is answered only where there is no room for it
 abbrev pub AnswersIfRoom : (m t : List ℕ) → Option Ended → ℕ → Type 0

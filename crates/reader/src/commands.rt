@@ -20,42 +20,16 @@ pub enum Request<'a> {
 fn is_text(signs: &[u8]) -> bool
     ensures { result ≡ a_text signs.now }
 {
-    if signs.len() > 4096 {
-        return false;
-    }
-    for sign in signs {
-        if *sign >= 24 {
-            return false;
-        }
-    }
-    true
+    signs.len() <= 4096 && signs.iter().all(|sign| *sign < 24)
 }
 
 pub fn decode(text: &[u8]) -> Option<Request<'_>>
     ensures { Decodes text.now result }
 {
-    let [kind, body @ ..] = text else {
-        return None;
-    };
-    if *kind == 1 {
-        if is_grammar(body) {
-            Some(Request::Load(body))
-        } else {
-            None
-        }
-    } else if *kind == 2 {
-        if is_text(body) {
-            Some(Request::Read(body))
-        } else {
-            None
-        }
-    } else if *kind == 3 {
-        if is_text(body) {
-            Some(Request::Next(body))
-        } else {
-            None
-        }
-    } else {
-        None
+    match text {
+        [1, body @ ..] if is_grammar(body) => Some(Request::Load(body)),
+        [2, body @ ..] if is_text(body) => Some(Request::Read(body)),
+        [3, body @ ..] if is_text(body) => Some(Request::Next(body)),
+        _ => None,
     }
 }

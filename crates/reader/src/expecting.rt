@@ -1,13 +1,16 @@
 // What may come next: a text is run through silently, and the signs that may come behind it are shown.
-ghost use Rattle.std.specs.Prelude.{◌≡◌, ◌+◌, ◌≤◌, true, length};
+ghost use Rattle.std.specs.Prelude.{◌≡◌, ◌≤◌, true, length};
 ghost use Rattle.parser.specs.Told.{signs_in};
 ghost use Rattle.reader.specs.Entry.{StepTold};
 ghost use Rattle.reader.specs.House.{a_text};
+ghost use Rattle.reader.specs.Laid.{layout_of};
 ghost use Rattle.reader.specs.Machine.{expects};
-ghost use Rattle.reader.specs.Memory.{Layout, over};
+ghost use Rattle.reader.specs.Memory.{over};
 
-use crate::Told;
-use crate::memory::{PHASE, loaded};
+use crate::memory::{PHASE, Phase, loaded};
+use crate::refusal::Refusal;
+use crate::regions::Regions;
+use crate::{Told, refuses};
 use grammar::analysis::analyse;
 use parser::next::{Following, next_signs};
 use words::bits::test;
@@ -29,35 +32,23 @@ fn show_signs(mask: u64, out: &mut [u64]) -> u64
 }
 
 /// The signs that may come behind the text are shown, or the first wrong place, if no text begins so.
-pub fn expect(
-    memory: &mut [u64],
-    work: usize,
-    fuel: usize,
-    stack: usize,
-    signs: &[u8],
-    out: &mut [u64],
-) -> Told
+pub fn expect(memory: &mut [u64], regions: Regions, signs: &[u8], out: &mut [u64]) -> Told
     requires text { a_text signs.now ≡ true }
-    requires behind { 4358 ≤ work }
-    requires lent { work + (fuel + stack) ≤ length memory.old }
+    requires long { length memory.old ≡ regions.words }
     requires room { 32 ≤ length out.old }
-    ensures { (l : Layout) → l.work ≡ work → l.fuel ≡ fuel → l.stack ≡ stack → StepTold (expects l memory.old signs.now) result out.old memory.new out.new }
+    ensures { StepTold (expects (layout_of regions) memory.old signs.now) result out.old memory.new out.new }
 {
     let Some(table) = loaded(memory) else {
-        return Told::No(3);
+        return Told::No(Refusal::NoGrammar);
     };
     let analysis = analyse(&table);
-    let end = work + (fuel + stack);
-    match next_signs(&mut memory[work..end], fuel, signs, &table, &analysis) {
+    let lent = &mut memory[regions.work..regions.stack_end()];
+    match next_signs(lent, regions.fuel, signs, &table, &analysis) {
         Following::Signs(mask) => {
-            memory[PHASE] = 2;
+            memory[PHASE] = u64::from(Phase::Told);
             Told::Shows(show_signs(mask, out))
         }
-        Following::Wrong(place) => {
-            memory[PHASE] = 4;
-            out[0] = place;
-            Told::Shows(1)
-        }
-        Following::GaveOut => Told::No(4),
+        Following::Wrong(place) => refuses(memory, Refusal::NoText, &[place], out),
+        Following::GaveOut => Told::No(Refusal::NoText),
     }
 }

@@ -1,39 +1,37 @@
 // The reader: the entry that finds the last name, and one step of the whole machine.
 #![tactic(auto)]
 
-ghost use Rattle.std.specs.Prelude.{◌≡◌, ◌+◌, ◌<◌, ◌≤◌, true, length};
+ghost use Rattle.std.specs.Prelude.{◌≡◌, ◌<◌, ◌≤◌, true, length};
 ghost use Rattle.grammar.specs.Spelling.{grammar_of, grammar_ok};
 ghost use Rattle.reader.specs.Entry.{PlaceSays, StepSays, StepTold, are_symbols, own, smaller, step_fits, symbol_ok};
 ghost use Rattle.reader.specs.House.{core};
-ghost use Rattle.reader.specs.Machine.{loads, sizes_fit};
+ghost use Rattle.reader.specs.Laid.{layout_of};
+ghost use Rattle.reader.specs.Machine.{loads, refuses, sizes_fit};
 ghost use Rattle.reader.specs.Promise.{SpelledOnce, Whole};
+ghost use Rattle.reader.specs.Refusals.{refusal_code};
 
 use commands::{Request, decode};
 use conflicts::clashes::find_clash;
 use grammar::{analysis, table};
-use memory::{PHASE, keep};
+use memory::{PHASE, Phase, keep};
+use refusal::Refusal;
+use regions::Regions;
 
 pub mod commands;
 // proved, and not yet a command that `step` knows
 mod expecting;
 mod memory;
 mod reading;
+pub mod refusal;
+mod regions;
 pub mod run;
 
-#[derive(Clone, Copy)]
-pub enum Reply {
-    At(u64),
-    None,
-    // The number of the refusal.
-    Refused(u64),
-}
-
-#[derive(Clone, Copy)]
+#[derive(Clone, Copy, Debug, PartialEq, Eq)]
 pub enum Told {
     // So many numbers.
     Shows(u64),
     Done,
-    No(u64),
+    No(Refusal),
 }
 
 // A sign, or a name from 32 on.
@@ -46,29 +44,22 @@ fn is_symbol(b: u8) -> bool
 fn all_symbols(symbols: &[u8]) -> bool
     ensures { result ≡ are_symbols symbols.now }
 {
-    for b in symbols {
-        if !is_symbol(*b) {
-            return false;
-        }
-    }
-    true
+    symbols.iter().all(|b| is_symbol(*b))
 }
 
 // The place of the last name in a row of symbols.
-pub fn last_name(symbols: &[u8]) -> Reply
+pub fn last_name(symbols: &[u8]) -> Result<Option<u64>, Refusal>
     ensures { PlaceSays symbols.now (are_symbols symbols.now) result }
 {
     if !all_symbols(symbols) {
-        return Reply::Refused(1);
+        return Err(Refusal::NoCommand);
     }
-    let mut i = symbols.len();
-    'back: while i > 0 {
-        i -= 1;
-        if symbols[i] >= 32 {
-            return Reply::At(i as u64);
-        }
-    }
-    Reply::None
+    Ok(
+        symbols
+            .iter()
+            .rposition(|s| *s >= 32)
+            .map(|place| place as u64),
+    )
 }
 
 // The sizes that a step is taken for.
@@ -78,53 +69,64 @@ fn sizes_fit(memory: usize, kind: u64, text: usize, out: usize) -> bool
     memory == 524288 && kind <= 1 && text <= 4097 && out >= 32
 }
 
+// A row is shown, and what it is refused with is said when it is told to go on.
+fn refuses(memory: &mut [u64], refusal: Refusal, row: &[u64], out: &mut [u64]) -> Told
+    requires phase { 258 < length memory.old }
+    requires room { length row.now ≤ length out.old }
+    ensures { StepTold (refuses memory.old (refusal_code refusal) row.now) result out.old memory.new out.new }
+{
+    memory[PHASE] = u64::from(Phase::Refused(refusal));
+    out[..row.len()].copy_from_slice(row);
+    Told::Shows(row.len() as u64)
+}
+
 // A name of no use is shown, or a clash; else the grammar is the one from then on. The pairs' words are lent from the memory.
-fn load(memory: &mut [u64], pairs: usize, size: usize, spelling: &[u8], out: &mut [u64]) -> Told
+fn load(memory: &mut [u64], regions: Regions, spelling: &[u8], out: &mut [u64]) -> Told
     requires grammar { grammar_ok spelling.now ≡ true }
-    requires lent { (size ≡ 36864) × ((258 < pairs) × (pairs + size ≤ length memory.old)) }
+    requires long { length memory.old ≡ regions.words }
     requires room { 32 ≤ length out.old }
-    ensures { StepTold (loads pairs size memory.old (grammar_of spelling.now)) result out.old memory.new out.new }
+    ensures { StepTold (loads regions.pairs regions.pair_words memory.old (grammar_of spelling.now)) result out.old memory.new out.new }
 {
     let Some(table) = table::read(spelling) else {
-        return Told::No(1);
+        return Told::No(Refusal::NoCommand);
     };
     if let Some(name) = analysis::useless(&table) {
-        memory[PHASE] = 6;
-        out[0] = name as u64;
-        return Told::Shows(1);
+        return refuses(memory, Refusal::Useless, &[u64::from(name)], out);
     }
     let analysis = analysis::analyse(&table);
-    if let Some(clash) = find_clash(&mut memory[pairs..pairs + size], &table, &analysis) {
-        memory[PHASE] = 5;
-        out[0] = clash.due as u64;
-        out[1] = clash.other as u64;
-        out[2] = clash.ahead as u64;
-        return Told::Shows(3);
+    let lent = &mut memory[regions.pairs..regions.pairs + regions.pair_words];
+    if let Some(clash) = find_clash(lent, &table, &analysis) {
+        let row = [
+            u64::from(clash.due),
+            u64::from(clash.other),
+            u64::from(clash.ahead),
+        ];
+        return refuses(memory, Refusal::Clash, &row, out);
     }
     keep(memory, spelling);
-    memory[PHASE] = 0;
+    memory[PHASE] = u64::from(Phase::Idle);
     Told::Done
 }
 
 // One step of the machine: kind 0 is a row of bytes that is said, 1 is to go on. It takes the machine's own step, and of that machine the main promise
 // stands: for whatever rows of bytes come, each is answered as it may be.
+// The kind stays a number, and rows stay slices: this is the entry for C, and a narrower type would ask more of callers.
 pub fn step(memory: &mut [u64], kind: u64, text: &[u8], out: &mut [u64]) -> Told
     ensures says { StepSays memory.old kind text.now out.old (step_fits memory.old kind text.now out.old) result memory.new out.new }
     ensures whole { Whole core own }
 {
     if !sizes_fit(memory.len(), kind, text.len(), out.len()) {
-        return Told::No(0);
+        return Told::No(Refusal::Sizes);
     }
+    let regions = Regions::own();
     if kind == 1 {
-        return reading::go_on(memory, 4358, 49400, 65553, out);
+        return reading::go_on(memory, regions, out);
     }
-    let Some(request) = decode(text) else {
-        return Told::No(1);
-    };
-    match request {
-        Request::Load(spelling) => load(memory, 119311, 36864, spelling, out),
-        Request::Read(signs) => reading::read(memory, 4358, 49400, 65553, signs, out),
-        Request::Next(_) => Told::No(2),
+    match decode(text) {
+        Some(Request::Load(spelling)) => load(memory, regions, spelling, out),
+        Some(Request::Read(signs)) => reading::read(memory, regions, signs, out),
+        Some(Request::Next(_)) => Told::No(Refusal::Unknown),
+        None => Told::No(Refusal::NoCommand),
     }
 }
 
@@ -146,5 +148,5 @@ pub fn spelled_once_stands() -> u8
 pub fn smaller_of(a: u64, b: u64) -> u64
     ensures { result ≡ smaller a b }
 {
-    if a < b { a } else { b }
+    a.min(b)
 }

@@ -2,8 +2,10 @@
 ghost use Rattle.std.specs.Prelude.{◌≡◌, ◌<◌, ◌≤◌, length};
 ghost use Rattle.grammar.specs.Grammar.{each};
 ghost use Rattle.reader.specs.Memory.{low_byte, over, with_spelling, with_text};
+ghost use Rattle.reader.specs.Phases.{PhaseOf, phase_code};
 ghost use Rattle.reader.specs.Tables.{LoadedTable};
 
+use crate::refusal::Refusal;
 use grammar::table;
 use grammar::table::Table;
 
@@ -20,13 +22,54 @@ pub const TEXT: usize = 262;
 /// And ends before here.
 pub const TEXT_END: usize = 4358;
 
+/// What the machine is at.
+#[derive(Clone, Copy, Debug, PartialEq, Eq, Hash)]
+pub enum Phase {
+    Idle,
+    /// A text is told.
+    Telling,
+    /// All of a text was told.
+    Told,
+    /// What was shown last is refused.
+    Refused(Refusal),
+}
+
+impl From<Phase> for u64 {
+    ghost from_gives = { λ phase word. word ≡ phase_code phase };
+
+    fn from(phase: Phase) -> u64 {
+        match phase {
+            Phase::Idle => 0,
+            Phase::Telling => 1,
+            Phase::Told => 2,
+            Phase::Refused(refusal) => u64::from(refusal),
+        }
+    }
+}
+
+impl From<u64> for Phase {
+    ghost from_gives = { PhaseOf };
+
+    fn from(word: u64) -> Phase {
+        match word {
+            1 => Phase::Telling,
+            2 => Phase::Told,
+            4 => Phase::Refused(Refusal::NoText),
+            5 => Phase::Refused(Refusal::Clash),
+            6 => Phase::Refused(Refusal::Useless),
+            _ => Phase::Idle,
+        }
+    }
+}
+
 /// The bytes written over the beginning of the words.
 fn write_over(words: &mut [u64], bytes: &[u8])
     requires { length bytes.now ≤ length words.old }
     ensures { words.new ≡ over bytes.now words.old }
 {
+    // by index: after `words.iter_mut().zip(bytes)` a proof knows no element
     for (i, byte) in bytes.iter().enumerate() {
-        words[i] = *byte as u64;
+        words[i] = u64::from(*byte);
     }
 }
 
@@ -35,6 +78,7 @@ pub fn low_bytes(words: &[u64], bytes: &mut [u8])
     requires { length words.now ≡ length bytes.old }
     ensures { bytes.new ≡ each low_byte words.now }
 {
+    // by index, as in `write_over`
     for (i, word) in words.iter().enumerate() {
         bytes[i] = (*word & 255) as u8;
     }
@@ -57,7 +101,7 @@ pub fn loaded(memory: &[u64]) -> Option<Table>
     let mut bytes = [0; 257];
     low_bytes(&memory[1..PHASE], &mut bytes);
     let many = memory[0].min(257) as usize;
-    table::read(&bytes[0..many])
+    table::read(&bytes[..many])
 }
 
 /// The text is to be told from its beginning.
@@ -65,7 +109,7 @@ pub fn store_text(memory: &mut [u64], signs: &[u8])
     requires { (4358 ≤ length memory.old) × (length signs.now ≤ 4096) }
     ensures { memory.new ≡ with_text signs.now memory.old }
 {
-    memory[PHASE] = 1;
+    memory[PHASE] = u64::from(Phase::Telling);
     memory[HEIGHT] = 0;
     memory[TAKEN] = 0;
     memory[COUNT] = signs.len() as u64;

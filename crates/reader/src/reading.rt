@@ -1,7 +1,7 @@
 // Reading: a text is run through silently, then told rule by rule as it is told to go on.
 ghost use Rattle.std.specs.Prelude.{◌≡◌, ◌+◌, ◌≤◌, true, length, None};
 ghost use Rattle.words.specs.Packed.{packed, unpacked};
-ghost use Rattle.words.specs.Regions.{region, replaced};
+ghost use Rattle.words.specs.Regions.{replaced};
 ghost use Rattle.grammar.specs.Grammar.{Grammar};
 ghost use Rattle.grammar.specs.Table.{Shows};
 ghost use Rattle.grammar.specs.Analysed.{Analysed};
@@ -9,11 +9,16 @@ ghost use Rattle.parser.specs.Drive.{advance_of};
 ghost use Rattle.parser.specs.Told.{advanced_by, config_of};
 ghost use Rattle.reader.specs.Entry.{StepTold};
 ghost use Rattle.reader.specs.House.{a_text};
-ghost use Rattle.reader.specs.Machine.{a_refusal, goes_on, reads, tells};
-ghost use Rattle.reader.specs.Memory.{Layout, cleared};
+ghost use Rattle.reader.specs.Laid.{layout_of};
+ghost use Rattle.reader.specs.Machine.{goes_on, reads, tells};
+ghost use Rattle.reader.specs.Memory.{cleared, stack_in};
 
-use crate::Told;
-use crate::memory::{COUNT, HEIGHT, PHASE, TAKEN, TEXT, TEXT_END, loaded, low_bytes, store_text};
+use crate::memory::{
+    COUNT, HEIGHT, PHASE, Phase, TAKEN, TEXT, TEXT_END, loaded, low_bytes, store_text,
+};
+use crate::refusal::Refusal;
+use crate::regions::Regions;
+use crate::{Told, refuses};
 use grammar::analysis::{Analysis, analyse};
 use grammar::table::Table;
 use parser::advance::advance;
@@ -23,123 +28,102 @@ use parser::config::{State, resume};
 /// On to the next rule that ends, with the stack's words lent from the memory.
 fn advance_in(
     memory: &mut [u64],
-    at: usize,
-    room: usize,
+    regions: Regions,
     state: &mut State,
     text: &[u8],
     table: &Table,
     analysis: &Analysis,
 ) -> Option<u8>
-    requires { at + room ≤ length memory.old }
-    ensures rule { (g : Grammar) → Shows table.now g → Analysed g analysis.now → advance_of g text.now (config_of (region at room memory.old) state.old) ≡ advanced_by result (config_of (region at room memory.new) state.new) }
-    ensures kept { memory.new ≡ replaced at room (packed (unpacked (region at room memory.new))) memory.old }
-    ensures cleared { result ≡ None → memory.new ≡ cleared at room memory.old }
+    requires { length memory.old ≡ regions.words }
+    ensures rule { (g : Grammar) → Shows table.now g → Analysed g analysis.now → advance_of g text.now (config_of (stack_in (layout_of regions) memory.old) state.old) ≡ advanced_by result (config_of (stack_in (layout_of regions) memory.new) state.new) }
+    ensures kept { memory.new ≡ replaced (regions.work + regions.fuel) regions.stack (packed (unpacked (stack_in (layout_of regions) memory.new))) memory.old }
+    ensures cleared { result ≡ None → memory.new ≡ cleared (regions.work + regions.fuel) regions.stack memory.old }
 {
-    advance(&mut memory[at..at + room], state, text, table, analysis)
+    let lent = &mut memory[regions.stack_start()..regions.stack_end()];
+    advance(lent, state, text, table, analysis)
 }
 
 /// On to the next rule that ends, which is shown; rule 0 is the last.
-fn tell(memory: &mut [u64], work: usize, fuel: usize, stack: usize, out: &mut [u64]) -> Told
-    requires behind { 4358 ≤ work }
-    requires lent { work + (fuel + stack) ≤ length memory.old }
+fn tell(memory: &mut [u64], regions: Regions, out: &mut [u64]) -> Told
+    requires long { length memory.old ≡ regions.words }
     requires room { 32 ≤ length out.old }
-    ensures { (l : Layout) → l.work ≡ work → l.fuel ≡ fuel → l.stack ≡ stack → StepTold (tells l memory.old) result out.old memory.new out.new }
+    ensures { StepTold (tells (layout_of regions) memory.old) result out.old memory.new out.new }
 {
     let Some(table) = loaded(memory) else {
-        return Told::No(3);
+        return Told::No(Refusal::NoGrammar);
     };
     let analysis = analyse(&table);
     let mut text = [0; 4096];
     low_bytes(&memory[TEXT..TEXT_END], &mut text);
     let many = memory[COUNT].min(4096) as usize;
-    let base = work + fuel;
-    let height = memory[HEIGHT] as usize;
-    let taken = memory[TAKEN] as usize;
     let mut state = resume(
-        &memory[base..base + stack],
-        height,
-        taken,
+        &memory[regions.stack_start()..regions.stack_end()],
+        memory[HEIGHT] as usize,
+        memory[TAKEN] as usize,
         &table,
         &analysis,
     );
     let Some(rule) = advance_in(
         memory,
-        base,
-        stack,
+        regions,
         &mut state,
-        &text[0..many],
+        &text[..many],
         &table,
         &analysis,
     ) else {
-        memory[PHASE] = 0;
-        return Told::No(4);
+        memory[PHASE] = u64::from(Phase::Idle);
+        return Told::No(Refusal::NoText);
     };
-    memory[PHASE] = if rule == 0 { 2 } else { 1 };
+    let phase = if rule == 0 {
+        Phase::Told
+    } else {
+        Phase::Telling
+    };
+    memory[PHASE] = u64::from(phase);
     memory[HEIGHT] = state.height as u64;
     memory[TAKEN] = state.taken as u64;
-    out[0] = rule as u64;
+    out[0] = u64::from(rule);
     Told::Shows(1)
 }
 
 /// The text is run through silently, and told if it is accepted; else the first wrong place is shown.
-pub fn read(
-    memory: &mut [u64],
-    work: usize,
-    fuel: usize,
-    stack: usize,
-    signs: &[u8],
-    out: &mut [u64],
-) -> Told
+pub fn read(memory: &mut [u64], regions: Regions, signs: &[u8], out: &mut [u64]) -> Told
     requires text { a_text signs.now ≡ true }
-    requires behind { 4358 ≤ work }
-    requires lent { work + (fuel + stack) ≤ length memory.old }
+    requires long { length memory.old ≡ regions.words }
     requires room { 32 ≤ length out.old }
-    ensures { (l : Layout) → l.work ≡ work → l.fuel ≡ fuel → l.stack ≡ stack → StepTold (reads l memory.old signs.now) result out.old memory.new out.new }
+    ensures { StepTold (reads (layout_of regions) memory.old signs.now) result out.old memory.new out.new }
 {
     let Some(table) = loaded(memory) else {
-        return Told::No(3);
+        return Told::No(Refusal::NoGrammar);
     };
     let analysis = analyse(&table);
-    let end = work + (fuel + stack);
-    match check(&mut memory[work..end], fuel, signs, &table, &analysis) {
+    let lent = &mut memory[regions.work..regions.stack_end()];
+    match check(lent, regions.fuel, signs, &table, &analysis) {
         Ending::Accepted => {
             store_text(memory, signs);
-            tell(memory, work, fuel, stack, out)
+            tell(memory, regions, out)
         }
-        Ending::Wrong(place) => {
-            memory[PHASE] = 4;
-            out[0] = place;
-            Told::Shows(1)
-        }
-        Ending::GaveOut => Told::No(4),
+        Ending::Wrong(place) => refuses(memory, Refusal::NoText, &[place], out),
+        Ending::GaveOut => Told::No(Refusal::NoText),
     }
-}
-
-/// Whether a phase is the number that what was shown is refused with.
-fn is_refusal(phase: u64) -> bool
-    ensures { result ≡ a_refusal phase }
-{
-    phase >= 4 && phase <= 6
 }
 
 /// Told to go on: a text is told further, or what was shown last is refused.
-pub fn go_on(memory: &mut [u64], work: usize, fuel: usize, stack: usize, out: &mut [u64]) -> Told
-    requires behind { 4358 ≤ work }
-    requires lent { work + (fuel + stack) ≤ length memory.old }
+pub fn go_on(memory: &mut [u64], regions: Regions, out: &mut [u64]) -> Told
+    requires long { length memory.old ≡ regions.words }
     requires room { 32 ≤ length out.old }
-    ensures { (l : Layout) → l.work ≡ work → l.fuel ≡ fuel → l.stack ≡ stack → StepTold (goes_on l memory.old) result out.old memory.new out.new }
+    ensures { StepTold (goes_on (layout_of regions) memory.old) result out.old memory.new out.new }
 {
-    let phase = memory[PHASE];
-    if phase == 1 {
-        return tell(memory, work, fuel, stack, out);
+    match Phase::from(memory[PHASE]) {
+        Phase::Telling => tell(memory, regions, out),
+        Phase::Told => {
+            memory[PHASE] = u64::from(Phase::Idle);
+            Told::Done
+        }
+        Phase::Refused(refusal) => {
+            memory[PHASE] = u64::from(Phase::Idle);
+            Told::No(refusal)
+        }
+        Phase::Idle => Told::No(Refusal::NoCommand),
     }
-    if phase == 2 {
-        memory[PHASE] = 0;
-        return Told::Done;
-    }
-    if is_refusal(phase) {
-        memory[PHASE] = 0;
-        return Told::No(phase);
-    }
-    Told::No(1)
 }

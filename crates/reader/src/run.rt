@@ -1,21 +1,23 @@
 // One command to its end, and the rows that are shown on the way, in a lent row.
 ghost use Rattle.std.specs.Prelude.{◌≡◌, ◌+◌, ◌<◌, ◌++◌, length, take, MatchOption};
 ghost use Rattle.reader.specs.Running.{AnswersAsItMay, AnswersIfRoom, RunsToItsEnd, StartsWithNothing, NoRow, refusal_number, row_told};
+ghost use Rattle.reader.specs.Refusals.{refusal_code};
 
 use super::{Told, sizes_fit, step};
+use crate::refusal::Refusal;
 
-/// How a command ended: 0 done, or the number it was refused with; and how many numbers of the lent row are used.
-#[derive(Clone, Copy)]
+/// How a command ended: done, or what it was refused with; and how many numbers of the lent row are used.
+#[derive(Clone, Copy, Debug, PartialEq, Eq)]
 pub struct Ended {
-    pub end: u64,
+    pub refused: Option<Refusal>,
     pub used: usize,
 }
 
-/// The numbers that a refusal has.
-fn is_refusal_number(k: u64) -> bool
-    ensures { result ≡ refusal_number k }
+/// Whether a command may be refused so: sizes that do not fit are no command's.
+fn is_answer(refusal: Refusal) -> bool
+    ensures { result ≡ refusal_number (refusal_code refusal) }
 {
-    k >= 1 && k < 1000
+    refusal != Refusal::Sizes
 }
 
 /// A row is written behind those that stand there, its length before it.
@@ -43,13 +45,19 @@ pub fn run(memory: &mut [u64], text: &[u8], shown: &mut [u64]) -> Option<Ended>
     'turn: loop {
         match step(memory, kind, text, &mut out) {
             Told::Done => {
-                return Some(Ended { end: 0, used });
+                return Some(Ended {
+                    refused: None,
+                    used,
+                });
             }
-            Told::No(k) => {
-                if !is_refusal_number(k) {
+            Told::No(refusal) => {
+                if !is_answer(refusal) {
                     return None;
                 }
-                return Some(Ended { end: k, used });
+                return Some(Ended {
+                    refused: Some(refusal),
+                    used,
+                });
             }
             Told::Shows(n) => {
                 let many = n as usize;
@@ -71,10 +79,7 @@ pub fn first_row(shown: &[u64]) -> Option<(&[u64], &[u64])>
     let [many, behind @ ..] = shown else {
         return None;
     };
-    if *many > behind.len() as u64 {
-        return None;
-    }
-    Some(behind.split_at(*many as usize))
+    behind.split_at_checked(*many as usize)
 }
 
 /// In the memory that the machine starts with nothing is loaded: so what is said of the first command holds, and of each after it.

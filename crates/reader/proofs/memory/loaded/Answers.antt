@@ -1,13 +1,12 @@
-use Rattle.std.proofs.Common.{◌≡◌, ℕ, ◌-◌, min, get_or, take, drop, ap, ◌∙◌, arith}
+use Rattle.std.proofs.Common.{ℕ, get_or, take, drop, ap, ◌∙◌, arith}
 use Rattle.words.proofs.Regions.{length_region}
 use Rattle.reader.proofs.Bytes.{bytes_taken, table_loaded}
 use Rattle.reader.proofs.memory.loaded.Goals as goal
 
 pub returns : goal.returns
 returns c =
-    let n : c.min-many.result - 0 ≡ min (get_or c.args.memory.now 0 0) 257 = omega (arith, c.min-many.ensures) in
     table_loaded c.args.memory.now _ _
-    (ap (λ (k : ℕ). take k c.low_bytes.new.bytes) n
+    (ap (λ (k : ℕ). take k c.low_bytes.new.bytes) c.min-many.ensures
     ∙ bytes_taken (get_or c.args.memory.now 0 0) 257 (take 257 (drop 1 c.args.memory.now)) c.low_bytes.new.bytes
     (length_region 1 257 c.args.memory.now (omega arith)) c.low_bytes.ensures)
     c.read.ensures

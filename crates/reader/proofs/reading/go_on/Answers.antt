@@ -1,14 +1,15 @@
-use Rattle.reader.proofs.ReadTold.{on_one, on_two, on_refusal, on_other}
+use Rattle.reader.specs.Laid.{layout_of}
+use Rattle.reader.proofs.ReadTold.{on_telling, on_told, on_refused, on_idle}
 use Rattle.reader.proofs.reading.go_on.Goals as goal
 
-pub returns-then-phase-eq1 : goal.returns-then-phase-eq1
-returns-then-phase-eq1 c = λ l ew ef es. on_one l _ _ _ _ _ c.if-phase-eq1.true (c.tell.ensures l ew ef es)
+pub returns-in-Telling : goal.returns-in-Telling
+returns-in-Telling c = on_telling (layout_of c.args.regions) _ _ _ _ _ c.in-Telling.ensures c.tell.ensures
 
-pub returns-then-phase-eq2 : goal.returns-then-phase-eq2
-returns-then-phase-eq2 c = λ l ew ef es. on_two l _ _ c.if-phase-eq2.true
+pub returns-in-Told : goal.returns-in-Told
+returns-in-Told c = on_told (layout_of c.args.regions) _ _ _ c.in-Told.ensures c.from-in-Told.ensures
 
-pub returns-then-is_refusal : goal.returns-then-is_refusal
-returns-then-is_refusal c = λ l ew ef es. on_refusal l _ _ c.if-phase-eq1.false c.if-phase-eq2.false c.if-is_refusal.ensures
+pub returns-in-Refused : goal.returns-in-Refused
+returns-in-Refused c = on_refused (layout_of c.args.regions) _ _ _ _ c.in-Refused.ensures c.from-in-Refused.ensures
 
-pub returns : goal.returns
-returns c = λ l ew ef es. on_other l _ _ c.if-phase-eq1.false c.if-phase-eq2.false c.if-is_refusal.ensures
+pub returns-in-Idle : goal.returns-in-Idle
+returns-in-Idle c = on_idle (layout_of c.args.regions) _ _ c.in-Idle.ensures

@@ -1,5 +1,6 @@
-use Rattle.std.proofs.Common.{◌≡◌, ℕ, ◌-◌, ◌<◌, ◌≤◌, true, false, length, take, sym, refl, ap, ◌∙◌, subst, arith}
+use Rattle.std.proofs.Common.{◌≡◌, ℕ, ◌-◌, ◌<◌, ◌≤◌, true, false, ltb, leb, length, take, sym, refl, ap, ◌∙◌, subst, arith}
 use Rattle.std.proofs.lemmas.Bool.{and_from, and_parts, le-leb, ltb-true}
+use Rattle.reader.specs.Refusals.{refusal_code}
 use Rattle.reader.specs.Running.{NoRoom}
 use Rattle.reader.proofs.Telling.{bytes_fit}
 use Rattle.reader.proofs.Running.{may_so, no_fault, size_fits}
@@ -24,21 +25,21 @@ returns-in-Done c =
     let r = done_so _ _ _ _ _ _ s _ _ _ c.turn.invariant.0 c.in-Done.ensures.says in
     record { ran = r; allowed = λ old h. may_so _ _ f old h _ _ _ _ r (λ z. omega arith); room = refl }
 
-pub returns-then-not-is_refusal_number : goal.returns-then-not-is_refusal_number
-returns-then-not-is_refusal_number c =
+pub returns-then-not-is_answer : goal.returns-then-not-is_answer
+returns-then-not-is_answer c =
     let s = c.turn.invariant.1 in
     let f = and_from _ _ s.short (bytes_fit _ (λ i. (c.type_inv.text i).fits)) in
-    let r = refused_so _ _ _ _ _ _ s _ _ _ c.turn.invariant.0 _ false (sym c.if-not-is_refusal_number.ensures) c.in-No.ensures.says in
+    let r = refused_so _ _ _ _ _ _ s _ _ _ c.turn.invariant.0 _ false (sym c.if-not-is_answer.ensures) c.in-No.ensures.says in
     record { ran = refl; allowed = refl; room = λ _ old h. absurd (no_fault _ _ f old h _ _ _ r) }
 
 pub returns-in-No : goal.returns-in-No
 returns-in-No c =
     let s = c.turn.invariant.1 in
     let f = and_from _ _ s.short (bytes_fit _ (λ i. (c.type_inv.text i).fits)) in
-    let b = sym c.if-not-is_refusal_number.ensures in
-    let less : c.in-No.k < 1000 = ltb-true _ _ (and_parts _ _ b).1 in
-    let r = refused_so _ _ _ _ _ _ s _ _ _ c.turn.invariant.0 c.in-No.k true b c.in-No.ensures.says in
-    record { ran = r; allowed = λ old h. may_so _ _ f old h _ _ c.in-No.k _ r (λ z. omega arith); room = refl }
+    let b = sym c.if-not-is_answer.ensures in
+    let less : refusal_code c.in-No.refusal < 1000 = ltb-true _ _ (and_parts (leb 1 (refusal_code c.in-No.refusal)) (ltb (refusal_code c.in-No.refusal) 1000) b).1 in
+    let r = refused_so _ _ _ _ _ _ s _ _ _ c.turn.invariant.0 c.in-No.refusal true b c.in-No.ensures.says in
+    record { ran = r; allowed = λ old h. may_so _ _ f old h _ _ (refusal_code c.in-No.refusal) _ r (λ z. omega arith); room = refl }
 
 pub returns-then-many-shown : goal.returns-then-many-shown
 returns-then-many-shown c =
