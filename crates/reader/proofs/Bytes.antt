@@ -12,7 +12,10 @@ use Rattle.grammar.specs.Spelling.{grammar_ok, grammar_of, Spells}
 use Rattle.grammar.specs.Table.{Shows, Answers}
 use Rattle.grammar.proofs.Spelled.{grammar_back, length_each}
 use Rattle.reader.specs.Memory.{low_byte, over, with_text, spelling_in, loaded}
-use Rattle.reader.specs.Tables.{LoadedTable}
+use Rattle.grammar.specs.declared.prepared.Prepared.{Prepared}
+use Rattle.grammar.specs.Prepared.{DescribesShown}
+use Rattle.std.specs.Prelude.{MatchOption}
+use Rattle.reader.specs.Tables.{LoadedGrammar}
 use Rattle.reader.proofs.Loading.{not_spelled}
 use Rattle.reader.proofs.Overwriting.{over_more, over_all}
 
@@ -80,6 +83,10 @@ bytes_taken k n ws bs h e =
         rw e (ap (λ (l : List ℕ). w ∷ l) (go k (length ws) ws refl))
 
 -- THE GRAMMAR that is loaded, as it is read off its spelling
+abbrev pub LoadedTable : List ℕ → Option Table → Type 0
+LoadedTable m None = loaded m ≡ []
+LoadedTable m (Some t) = (loaded m ≡ grammar_of (spelling_in m) ∷ []) × Shows t (grammar_of (spelling_in m))
+
 pub table_loaded : (m bs : List ℕ) (r : Option Table) → bs ≡ spelling_in m → Answers bs r → LoadedTable m r
 unfolding loaded Spells
 table_loaded m bs None e h = go (grammar_ok (spelling_in m)) refl
@@ -92,3 +99,11 @@ table_loaded m bs (Some t) e h =
     let p : Shows t (grammar_of (spelling_in m)) = subst (λ (l : List ℕ). Shows t (grammar_of l)) e h.1 in
     let q : grammar_ok (spelling_in m) ≡ true = subst (λ (l : List ℕ). grammar_ok l ≡ true) s.1 (grammar_back (grammar_of (spelling_in m)) s.0).0 in
     (rw q refl, p)
+
+-- the grammar that is made of a table, where there is one
+abbrev pub MadeOf : Option Table → Option Prepared → Type 0
+MadeOf r q = MatchOption r (q ≡ None) (λ t. (p : Prepared) × (q ≡ Some p) × DescribesShown t p)
+
+pub grammar_loaded : (m : List ℕ) (r : Option Table) (q : Option Prepared) → LoadedTable m r → MadeOf r q → LoadedGrammar m q
+grammar_loaded m None q h e = subst (LoadedGrammar m) (sym e) h
+grammar_loaded m (Some t) q h (p, e, d) = subst (LoadedGrammar m) (sym e) (h.0, d.1 (grammar_of (spelling_in m)) h.1)

@@ -24,4 +24,3 @@ mod Machine
 mod Main
 mod Running
 mod RunningTurns
-pub mod Tests

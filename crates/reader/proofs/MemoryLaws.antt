@@ -8,7 +8,7 @@ use Rattle.grammar.specs.Grammar.{pick, every, each, Grammar, a_grammar}
 use Rattle.grammar.specs.Spelling.{grammar_ok, grammar_of, grammar_spelled}
 use Rattle.grammar.proofs.Lists.{every_append}
 use Rattle.grammar.proofs.Spelled.{grammar_back}
-use Rattle.reader.specs.Memory.{cleared, over, low_byte, spelling_in, with_spelling, loaded}
+use Rattle.reader.specs.Memory.{cleared, over, low_byte, spelling_in, with_spelling, with_text, loaded}
 
 -- SIZES
 abbrev pub small : ℕ → Bool
@@ -104,6 +104,19 @@ low_bytes_lem (b ∷ bs) h =
     let p = and_parts (ltb b 256) (every (λ b. ltb b 256) bs) h in
     let e : b % 256 ≡ b = mod-eq_of_lt (ltb-true b 256 p.0) in
     ap₂ (λ (x : ℕ) (l : List ℕ). x ∷ l) e (low_bytes_lem bs p.1)
+
+-- a text that is stored
+pub loaded_text : (ts m : List ℕ) → 4358 ≤ length m → length ts ≤ 4096 → loaded (with_text ts m) ≡ loaded m
+loaded_text ts m long short =
+    let one = set m 258 1 in
+    let two = set one 259 0 in
+    let three = set two 260 0 in
+    let heads = set three 261 (length ts) in
+    let n : length heads ≡ length m = length-set three 261 (length ts) ∙ length-set two 260 0 ∙ length-set one 259 0 ∙ length-set m 258 1 in
+    let r : length (region 262 4096 m) ≡ 4096 = length_region 262 4096 m (omega arith) in
+    let row = length_over ts (region 262 4096 m) (omega arith) ∙ r in
+    loaded_replaced 262 4096 (over ts (region 262 4096 m)) heads (omega arith) (omega arith) row
+    ∙ loaded_set 261 (length ts) three (omega arith) ∙ loaded_set 260 0 two (omega arith) ∙ loaded_set 259 0 one (omega arith) ∙ loaded_set 258 1 m (omega arith)
 
 pub loaded_spelled : (g : Grammar) (m : List ℕ) → 258 < length m → length (grammar_spelled g) ≤ 257 → every (λ b. ltb b 256) (grammar_spelled g) ≡ true →
     a_grammar g ≡ true → loaded (with_spelling (grammar_spelled g) m) ≡ g ∷ []

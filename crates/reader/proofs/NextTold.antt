@@ -1,10 +1,10 @@
 -- What may come next, as its step is told to the world outside; and the row of signs that it shows.
-use Rattle.std.proofs.Common.{◌≡◌, ℕ, ◌+◌, ◌-◌, ◌*◌, ◌^◌, ◌<◌, ◌≤◌, Bool, true, false, List, [], ◌∷◌, ◌++◌, length, set, sym, refl, ap, ◌∙◌, subst, ap₂, append-nil, add-one, arith, length-append, length-set}
+use Rattle.std.proofs.Common.{Ok, Err, ◌≡◌, ℕ, ◌+◌, ◌-◌, ◌*◌, ◌^◌, ◌<◌, ◌≤◌, Bool, true, false, List, [], ◌∷◌, ◌++◌, length, set, sym, refl, ap, ◌∙◌, subst, ap₂, append-nil, add-one, arith, length-append, length-set}
 use Rattle.words.specs.Bits.{has_bit}
 use Rattle.grammar.specs.Grammar.{pick, Grammar}
 use Rattle.parser.specs.Rows.{passing}
 use Rattle.parser.specs.Drive.{Following, followed_by, wrong_before, unknown, next_of}
-use Rattle.parser.specs.declared.next.Following.TheVariants.{Signs, Wrong, GaveOut}
+use Rattle.parser.specs.declared.check.Unread.TheVariants.{Wrong, GaveOut}
 use Rattle.parser.specs.Told.{followed, signs_in}
 use Rattle.parser.proofs.Rows.{passing_push}
 use Rattle.reader.specs.declared.Told.{Told}
@@ -76,16 +76,16 @@ module _ (l : Layout) (m ts out : List ℕ) where
     known e h =
         let k : length work - l.fuel ≡ l.stack = omega (arith, w.long) in h ∙ ap (λ (n : ℕ). next_of g ts (8 * n) (2 ^ (64 * l.fuel) - 1)) k
 
-    pub signs_told : (mask k r : ℕ) (out₁ : List ℕ) → followed (Signs mask) ≡ next_of g ts (8 * (length work - l.fuel)) (2 ^ (64 * l.fuel) - 1) → k ≡ 2 →
+    pub signs_told : (mask k r : ℕ) (out₁ : List ℕ) → followed (Ok mask) ≡ next_of g ts (8 * (length work - l.fuel)) (2 ^ (64 * l.fuel) - 1) → k ≡ 2 →
         r ≡ length (signs_in mask) → out₁ ≡ over (signs_in mask) out → StepTold (expects l m ts) (Shows r) out (with_phase k m₁) out₁
     unfolding expects_with on_following ActTold followed
     signs_told mask k r out₁ e p n o = rw (is, ← (known (followed_by (signs_in mask)) e)) (ap₂ with_phase p w.clear, (ap Shows n, o))
 
-    pub wrong_told : (p : ℕ) (r : Told) (m₂ out₁ : List ℕ) → followed (Wrong p) ≡ next_of g ts (8 * (length work - l.fuel)) (2 ^ (64 * l.fuel) - 1) →
+    pub wrong_told : (p : ℕ) (r : Told) (m₂ out₁ : List ℕ) → followed (Err (Wrong p)) ≡ next_of g ts (8 * (length work - l.fuel)) (2 ^ (64 * l.fuel) - 1) →
         StepTold (refuses m₁ 4 (p ∷ [])) r out m₂ out₁ → StepTold (expects l m ts) r out m₂ out₁
     unfolding expects_with on_following followed
     wrong_told p r m₂ out₁ e s = rw (is, ← (known (wrong_before p) e)) (subst (λ (x : List ℕ). StepTold (refuses x 4 (p ∷ [])) r out m₂ out₁) w.clear s)
 
-    pub unknown_told : followed GaveOut ≡ next_of g ts (8 * (length work - l.fuel)) (2 ^ (64 * l.fuel) - 1) → StepTold (expects l m ts) (No NoText) out m₁ out
+    pub unknown_told : followed (Err GaveOut) ≡ next_of g ts (8 * (length work - l.fuel)) (2 ^ (64 * l.fuel) - 1) → StepTold (expects l m ts) (No NoText) out m₁ out
     unfolding expects_with on_following ActTold followed
     unknown_told e = rw (is, ← (known unknown e)) (w.clear, ((NoText, refl, refl), refl))

@@ -1,5 +1,6 @@
 -- A text that is read, then told rule by rule, as each step is told to the world outside.
-use Rattle.std.proofs.Common.{◌≡◌, ℕ, ◌+◌, ◌-◌, ◌*◌, ◌^◌, ◌≤◌, min, Bool, true, false, eqb, leb, List, [], ◌∷◌, length, get_or, take, drop, set, Some, None, sym, refl, ap, ◌∙◌, subst, ap₂, arith}
+use Rattle.std.proofs.Common.{replicate, ◌≡◌, ℕ, ◌+◌, ◌-◌, ◌*◌, ◌^◌, ◌≤◌, min, Bool, true, false, eqb, leb, List, [], ◌∷◌, length, get_or, take, drop, set, Some, None, Ok, Err, sym, refl, ap, ◌∙◌, subst, ap₂, arith}
+use lib.ListN.{length-replicate}
 use Rattle.std.proofs.lemmas.Bool.{eq-eqb, ne_eqb, and_parts, leb-true}
 use Rattle.words.specs.Packed.{unpacked, packed, stacked}
 use Rattle.words.specs.Regions.{region, replaced}
@@ -7,7 +8,7 @@ use Rattle.words.proofs.Regions.{length_region}
 use Rattle.grammar.specs.Grammar.{pick, each, Grammar}
 use Rattle.parser.specs.declared.config.State.{State}
 use Rattle.parser.specs.Drive.{Ending, accepted, wrong, gave_out, check_of, Config, config, items_of, Advanced, ends, none, advance_of}
-use Rattle.parser.specs.declared.check.Ending.TheVariants.{Accepted, Wrong, GaveOut}
+use Rattle.parser.specs.declared.check.Unread.TheVariants.{Wrong, GaveOut}
 use Rattle.parser.specs.Told.{config_of, advanced_by, ended}
 use Rattle.reader.specs.declared.Told.{Told}
 use Rattle.reader.specs.declared.Told.TheVariants.{Shows, Done, No}
@@ -21,6 +22,7 @@ use Rattle.reader.specs.Machine.{on_ended, tells_with, tells, on_ending, reads_w
 use Rattle.reader.specs.Phases.{PhaseOf}
 use Rattle.reader.specs.Entry.{StepTold, ActTold}
 use Rattle.reader.proofs.Bytes.{bytes_taken}
+use Rattle.reader.proofs.MemoryLaws.{length_cleared, loaded_replaced, loaded_text}
 use Rattle.reader.proofs.Lent.{Worked, lent_is}
 use Rattle.reader.proofs.Loading.{set_one}
 
@@ -99,20 +101,28 @@ module _ (l : Layout) (m ts out : List ℕ) where
     checked e h =
         let k : length work - l.fuel ≡ l.stack = omega (arith, w.long) in h ∙ ap (λ (n : ℕ). check_of g ts (8 * n) (2 ^ (64 * l.fuel) - 1)) k
 
-    pub accepted_told : (r : Told) (m₂ m₃ out₁ : List ℕ) → ended Accepted ≡ check_of g ts (8 * (length work - l.fuel)) (2 ^ (64 * l.fuel) - 1) →
+    pub accepted_told : (r : Told) (m₂ m₃ out₁ : List ℕ) → ended (Ok tt) ≡ check_of g ts (8 * (length work - l.fuel)) (2 ^ (64 * l.fuel) - 1) →
         m₂ ≡ with_text ts m₁ → StepTold (tells l m₂) r out m₃ out₁ → StepTold (reads l m ts) r out m₃ out₁
     unfolding reads_with on_ending ended
     accepted_told r m₂ m₃ out₁ e p s =
         rw (is, ← (checked accepted e)) (subst (λ (x : List ℕ). StepTold (tells l x) r out m₃ out₁) (p ∙ ap (with_text ts) w.clear) s)
 
-    pub wrong_told : (p : ℕ) (r : Told) (m₂ out₁ : List ℕ) → ended (Wrong p) ≡ check_of g ts (8 * (length work - l.fuel)) (2 ^ (64 * l.fuel) - 1) →
+    pub wrong_told : (p : ℕ) (r : Told) (m₂ out₁ : List ℕ) → ended (Err (Wrong p)) ≡ check_of g ts (8 * (length work - l.fuel)) (2 ^ (64 * l.fuel) - 1) →
         StepTold (refuses m₁ 4 (p ∷ [])) r out m₂ out₁ → StepTold (reads l m ts) r out m₂ out₁
     unfolding reads_with on_ending ended
     wrong_told p r m₂ out₁ e s = rw (is, ← (checked (wrong p) e)) (subst (λ (x : List ℕ). StepTold (refuses x 4 (p ∷ [])) r out m₂ out₁) w.clear s)
 
-    pub gave_out_told : ended GaveOut ≡ check_of g ts (8 * (length work - l.fuel)) (2 ^ (64 * l.fuel) - 1) → StepTold (reads l m ts) (No NoText) out m₁ out
+    pub gave_out_told : ended (Err GaveOut) ≡ check_of g ts (8 * (length work - l.fuel)) (2 ^ (64 * l.fuel) - 1) → StepTold (reads l m ts) (No NoText) out m₁ out
     unfolding reads_with on_ending ActTold ended
     gave_out_told e = rw (is, ← (checked gave_out e)) (w.clear, ((NoText, refl, refl), refl))
+
+-- the grammar is loaded still, where the text is to be told
+pub still_loaded : (l : Layout) (m ts work m₁ m₂ : List ℕ) (g : Grammar) → Worked l m work m₁ → m₂ ≡ with_text ts m₁ → loaded m ≡ g ∷ [] →
+    4358 ≤ l.work → l.work + (l.fuel + l.stack) ≤ length m → length ts ≤ 4096 → loaded m₂ ≡ g ∷ []
+still_loaded l m ts work m₁ m₂ g w t is low fits short =
+    let n : length m₁ ≡ length m = ap length w.clear ∙ length_cleared l.work (l.fuel + l.stack) m fits in
+    ap loaded t ∙ loaded_text ts m₁ (omega arith) short ∙ ap loaded w.clear
+    ∙ loaded_replaced l.work (l.fuel + l.stack) (replicate (l.fuel + l.stack) 0) m (omega arith) fits (length-replicate {A = ℕ} (l.fuel + l.stack) 0) ∙ is
 
 -- GOING ON
 module _ (l : Layout) (m out : List ℕ) where

@@ -8,7 +8,7 @@ use Rattle.words.proofs.Packing.{unpacked_zeroes}
 use Rattle.grammar.specs.Grammar.{every, each}
 use Rattle.parser.specs.Drive.{Config}
 use Rattle.reader.specs.Memory.{Layout, Apart, phase_in, height_in, taken_in, text_in, with_text, stack_in, with_config, cleared, over, low_byte, loaded}
-use Rattle.reader.proofs.MemoryLaws.{length_over, length_cleared, loaded_set, loaded_replaced, low_bytes_lem}
+use Rattle.reader.proofs.MemoryLaws.{length_over, length_cleared, loaded_set, loaded_replaced, loaded_text, low_bytes_lem}
 use Rattle.reader.proofs.PackedBytes.{a_byte, length_packed}
 
 -- a number written below a region
@@ -173,9 +173,7 @@ module _ (l : Layout) (apart : Apart l) (m : List ℕ) (long : length m ≡ l.wo
         ∙ three_region m 1 0 0 long_enough (l.work + l.fuel) l.stack (omega arith)
 
     pub text_loaded : loaded (with_text ts m) ≡ loaded m
-    text_loaded =
-        loaded_replaced 262 4096 (over ts (region 262 4096 m)) heads (omega arith) text_within text_row
-        ∙ loaded_set 261 (length ts) first (omega arith) ∙ three_loaded m 1 0 0 long_enough
+    text_loaded = loaded_text ts m spacious short
 
   -- NOTHING, in the countdown and the stack
   abbrev none_left : List ℕ

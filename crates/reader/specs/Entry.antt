@@ -2,6 +2,7 @@
 -- definitions.
 use Rattle.std.specs.Prelude.{◌≡◌, ℕ, suc, Bool, true, false, ◌&&◌, List, [], ◌∷◌, ◌++◌, length, drop, ◌==◌, nat_le, nat_lt, Option, Some, None, Result, Ok, Err}
 use Rattle.grammar.specs.Grammar.{pick, every, none_of}
+use Rattle.grammar.specs.Spelling.{symbol_ok}
 use Rattle.reader.specs.declared.refusal.Refusal.{Refusal}
 use Rattle.reader.specs.declared.refusal.Refusal.TheVariants.{Sizes, NoCommand}
 use Rattle.reader.specs.declared.Told.{Told}
@@ -27,9 +28,6 @@ place_told (p ∷ ps) = Some p
 unfoldable pub PlaceSays : List ℕ → Bool → Result (Option ℕ) Refusal → Type 0
 PlaceSays bs true r = r ≡ Ok (place_told (last_place 0 bs))
 PlaceSays bs false r = r ≡ Err NoCommand
-
-abbrev pub symbol_ok : ℕ → Bool
-symbol_ok b = pick (nat_lt b 24) true (nat_le 32 b && nat_lt b 64)
 
 abbrev pub are_symbols : List ℕ → Bool
 are_symbols bs = every symbol_ok bs

@@ -6,7 +6,7 @@ ghost use Rattle.reader.specs.Requests.{Decodes};
 use grammar::spelling::is_grammar;
 
 // A command, with the bytes that are behind its first.
-#[derive(Clone, Copy)]
+#[derive(Clone, Copy, Debug, PartialEq, Eq)]
 pub enum Request<'a> {
     // The spelling of a grammar.
     Load(&'a [u8]),

@@ -11,8 +11,8 @@ use crate::memory::{PHASE, Phase, loaded};
 use crate::refusal::Refusal;
 use crate::regions::Regions;
 use crate::{Told, refuses};
-use grammar::analysis::analyse;
-use parser::next::{Following, next_signs};
+use parser::check::Unread;
+use parser::next::next_signs;
 use words::bits::test;
 
 /// The signs of a mask, and 24 for the end, rising, at the front of the lent row; and how many they are.
@@ -21,6 +21,7 @@ fn show_signs(mask: u64, out: &mut [u64]) -> u64
     ensures row { out.new ≡ over (signs_in mask) out.old }
     ensures many { result ≡ length (signs_in mask) }
 {
+    // counted by hand: after a zip over `out.iter_mut()` a proof knows no element, and how many there are is the result
     let mut many = 0;
     'sign: for sign in 0..25u64 {
         if test(mask, sign) {
@@ -38,17 +39,16 @@ pub fn expect(memory: &mut [u64], regions: Regions, signs: &[u8], out: &mut [u64
     requires room { 32 ≤ length out.old }
     ensures { StepTold (expects (layout_of regions) memory.old signs.now) result out.old memory.new out.new }
 {
-    let Some(table) = loaded(memory) else {
+    let Some(grammar) = loaded(memory) else {
         return Told::No(Refusal::NoGrammar);
     };
-    let analysis = analyse(&table);
     let lent = &mut memory[regions.work..regions.stack_end()];
-    match next_signs(lent, regions.fuel, signs, &table, &analysis) {
-        Following::Signs(mask) => {
+    match next_signs(lent, regions.fuel, signs, &grammar) {
+        Ok(mask) => {
             memory[PHASE] = u64::from(Phase::Told);
             Told::Shows(show_signs(mask, out))
         }
-        Following::Wrong(place) => refuses(memory, Refusal::NoText, &[place], out),
-        Following::GaveOut => Told::No(Refusal::NoText),
+        Err(Unread::Wrong(place)) => refuses(memory, Refusal::NoText, &[place], out),
+        Err(Unread::GaveOut) => Told::No(Refusal::NoText),
     }
 }

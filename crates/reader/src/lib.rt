@@ -3,7 +3,7 @@
 
 ghost use Rattle.std.specs.Prelude.{◌≡◌, ◌<◌, ◌≤◌, true, length};
 ghost use Rattle.grammar.specs.Spelling.{grammar_of, grammar_ok};
-ghost use Rattle.reader.specs.Entry.{PlaceSays, StepSays, StepTold, are_symbols, own, smaller, step_fits, symbol_ok};
+ghost use Rattle.reader.specs.Entry.{PlaceSays, StepSays, StepTold, are_symbols, own, smaller, step_fits};
 ghost use Rattle.reader.specs.House.{core};
 ghost use Rattle.reader.specs.Laid.{layout_of};
 ghost use Rattle.reader.specs.Machine.{loads, refuses, sizes_fit};
@@ -12,7 +12,10 @@ ghost use Rattle.reader.specs.Refusals.{refusal_code};
 
 use commands::{Request, decode};
 use conflicts::clashes::find_clash;
-use grammar::{analysis, table};
+use grammar::analysis::useless;
+use grammar::prepared::Prepared;
+use grammar::spelling::is_symbol;
+use grammar::table;
 use memory::{PHASE, Phase, keep};
 use refusal::Refusal;
 use regions::Regions;
@@ -26,19 +29,15 @@ pub mod refusal;
 mod regions;
 pub mod run;
 
+// What is shown for going on, in place of a rule.
+const SHIFT: u8 = 64;
+
 #[derive(Clone, Copy, Debug, PartialEq, Eq)]
 pub enum Told {
     // So many numbers.
     Shows(u64),
     Done,
     No(Refusal),
-}
-
-// A sign, or a name from 32 on.
-fn is_symbol(b: u8) -> bool
-    ensures { result ≡ symbol_ok b }
-{
-    b < 24 || (b >= 32 && b < 64)
 }
 
 fn all_symbols(symbols: &[u8]) -> bool
@@ -90,15 +89,15 @@ fn load(memory: &mut [u64], regions: Regions, spelling: &[u8], out: &mut [u64]) 
     let Some(table) = table::read(spelling) else {
         return Told::No(Refusal::NoCommand);
     };
-    if let Some(name) = analysis::useless(&table) {
+    if let Some(name) = useless(&table) {
         return refuses(memory, Refusal::Useless, &[u64::from(name)], out);
     }
-    let analysis = analysis::analyse(&table);
+    let grammar = Prepared::new(table);
     let lent = &mut memory[regions.pairs..regions.pairs + regions.pair_words];
-    if let Some(clash) = find_clash(lent, &table, &analysis) {
+    if let Some(clash) = find_clash(lent, &grammar) {
         let row = [
             u64::from(clash.due),
-            u64::from(clash.other),
+            u64::from(clash.other.unwrap_or(SHIFT)),
             u64::from(clash.ahead),
         ];
         return refuses(memory, Refusal::Clash, &row, out);
@@ -110,7 +109,8 @@ fn load(memory: &mut [u64], regions: Regions, spelling: &[u8], out: &mut [u64]) 
 
 // One step of the machine: kind 0 is a row of bytes that is said, 1 is to go on. It takes the machine's own step, and of that machine the main promise
 // stands: for whatever rows of bytes come, each is answered as it may be.
-// The kind stays a number, and rows stay slices: this is the entry for C, and a narrower type would ask more of callers.
+// The kind stays a number, and rows stay slices: this is the entry for C, and a narrower type would ask more of callers. What is shown stays a slice below
+// too: after a call with a `&mut [u64; 32]` a proof does not know that it is 32 long.
 pub fn step(memory: &mut [u64], kind: u64, text: &[u8], out: &mut [u64]) -> Told
     ensures says { StepSays memory.old kind text.now out.old (step_fits memory.old kind text.now out.old) result memory.new out.new }
     ensures whole { Whole core own }

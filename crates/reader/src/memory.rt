@@ -3,11 +3,11 @@ ghost use Rattle.std.specs.Prelude.{◌≡◌, ◌<◌, ◌≤◌, length};
 ghost use Rattle.grammar.specs.Grammar.{each};
 ghost use Rattle.reader.specs.Memory.{low_byte, over, with_spelling, with_text};
 ghost use Rattle.reader.specs.Phases.{PhaseOf, phase_code};
-ghost use Rattle.reader.specs.Tables.{LoadedTable};
+ghost use Rattle.reader.specs.Tables.{LoadedGrammar};
 
 use crate::refusal::Refusal;
+use grammar::prepared::Prepared;
 use grammar::table;
-use grammar::table::Table;
 
 /// The word that says what the machine is at.
 pub const PHASE: usize = 258;
@@ -93,15 +93,15 @@ pub fn keep(memory: &mut [u64], spelling: &[u8])
     write_over(&mut memory[1..PHASE], spelling);
 }
 
-/// The grammar that is loaded, as a table.
-pub fn loaded(memory: &[u64]) -> Option<Table>
+/// The grammar that is loaded.
+pub fn loaded(memory: &[u64]) -> Option<Prepared>
     requires { 258 < length memory.now }
-    ensures { LoadedTable memory.now result }
+    ensures { LoadedGrammar memory.now result }
 {
     let mut bytes = [0; 257];
     low_bytes(&memory[1..PHASE], &mut bytes);
     let many = memory[0].min(257) as usize;
-    table::read(&bytes[..many])
+    table::read(&bytes[..many]).map(Prepared::new)
 }
 
 /// The text is to be told from its beginning.

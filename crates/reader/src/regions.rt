@@ -2,7 +2,7 @@
 ghost use Rattle.std.specs.Prelude.{◌≡◌, ◌+◌, ◌≤◌};
 
 /// The countdown, the stack right behind it, and the pairs: none shares a word with what is kept between steps, and all are within the memory.
-#[derive(Clone, Copy)]
+#[derive(Clone, Copy, Debug)]
 pub struct Regions {
     /// How many words the memory has.
     pub words: usize,

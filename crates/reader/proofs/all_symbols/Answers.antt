@@ -1,8 +1,11 @@
-use Rattle.std.proofs.Common.{rules}
-use Rattle.std.proofs.iter.runs.Made.{chains}
-use Rattle.reader.specs.Entry.{symbol_ok}
-use Rattle.reader.proofs.Tests.{every_by}
+use Rattle.std.proofs.Common.{◌∙◌, rules}
+use Rattle.std.proofs.lemmas.Iterator.{YieldsList-from_slice}
+use Rattle.std.proofs.lemmas.Iterator.Search.{all_from_yields_List}
+use Rattle.grammar.specs.Spelling.{symbol_ok}
+use Rattle.grammar.proofs.Every.{every_all}
 use Rattle.reader.proofs.all_symbols.Goals as goal
 
 pub returns : goal.returns
-returns c = every_by symbol_ok c.args.symbols.now c.all.result (search (rules, chains))
+returns c =
+    all_from_yields_List symbol_ok _ _ c.all.result c.all.ensures.ran (YieldsList-from_slice c.args.symbols.now cc) (λ x b q k. search rules)
+    ∙ every_all symbol_ok c.args.symbols.now

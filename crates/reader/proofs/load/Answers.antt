@@ -24,8 +24,8 @@ returns-in-Some-find_clash c =
     let all = long ∙ r.pairs_fit in
     let clear = lent_cleared r.pairs r.pair_words r.pairs (r.pairs + r.pair_words) m refl refl c.find_clash.new.work _ (sym r.pairs_fit) (c.find_clash.ensures.cleared all) in
     clash_told r.pairs r.pair_words m c.args.out.now g _ _ _ _ (sym (c.in_default-useless.ensures.value g shows)) clear _ _
-    (c.in-Some-find_clash.ensures.value g shows (c.analyse-analysis.ensures.value g shows) all)
-    (λ i. c.from-in-Some-find_clash.ensures i ∷ c.from-in-Some-find_clash-2.ensures i ∷ c.from-in-Some-find_clash-3.ensures i ∷ [])
+    (c.in-Some-find_clash.ensures.value g (c.new-grammar.ensures.value.1 g shows) all)
+    (λ i. c.from-in-Some-find_clash.ensures i ∷ (c.from-in-Some-find_clash-2.ensures ∙ c.unwrap_or.ensures) i ∷ c.from-in-Some-find_clash-3.ensures i ∷ [])
     c.refuses-in-Some-find_clash.ensures
 
 pub keep-requires : goal.keep-requires
@@ -41,5 +41,5 @@ returns c =
     let all = long ∙ r.pairs_fit in
     let clear = lent_cleared r.pairs r.pair_words r.pairs (r.pairs + r.pair_words) m refl refl c.find_clash.new.work _ (sym r.pairs_fit) (c.find_clash.ensures.cleared all) in
     loaded_told r.pairs r.pair_words m c.args.out.now g _ _ _ _ (sym (c.in_default-useless.ensures.value g shows)) clear c.args.spelling.now
-    (c.in_default-find_clash.ensures.value g shows (c.analyse-analysis.ensures.value g shows) all)
+    (c.in_default-find_clash.ensures.value g (c.new-grammar.ensures.value.1 g shows) all)
     (grammar_said c.args.spelling.now c.requires.grammar).1 refl (ap₂ with_phase c.from-2.ensures c.keep.ensures) refl

@@ -9,32 +9,32 @@ use Rattle.reader.proofs.expecting.expect.Goals as goal
 pub returns-in_default : goal.returns-in_default
 returns-in_default c = expect_unloaded (layout_of c.args.regions) _ _ _ c.in_default.ensures
 
-pub returns-in-Signs : goal.returns-in-Signs
-returns-in-Signs c =
+pub returns-in-Ok : goal.returns-in-Ok
+returns-in-Ok c =
     let m = c.args.memory.now in
     let r = c.args.regions in
     let g = grammar_of (spelling_in m) in
-    let shows = c.in-Some.ensures.1 in
+    let describes = c.in-Some.ensures.1 in
     let w = worked (layout_of r) _ m _ c.stack_end.ensures (omega (arith, c.stack_end.ensures, r.apart, r.within, c.requires.long)) c.next_signs.ensures.cleared in
-    signs_told (layout_of r) m c.args.signs.now c.args.out.now g _ _ c.in-Some.ensures.0 w c.in-Signs.mask _ _ _
-    (c.in-Signs.ensures.value w.fuel g shows (c.analyse-analysis.ensures.value g shows)) c.from.ensures c.show_signs.ensures.many c.show_signs.ensures.row
+    signs_told (layout_of r) m c.args.signs.now c.args.out.now g _ _ c.in-Some.ensures.0 w c.in-Ok.mask _ _ _
+    (c.in-Ok.ensures.value w.fuel g describes) c.from.ensures c.show_signs.ensures.many c.show_signs.ensures.row
 
-pub returns-in-Wrong : goal.returns-in-Wrong
-returns-in-Wrong c =
+pub returns-in-Err-Wrong : goal.returns-in-Err-Wrong
+returns-in-Err-Wrong c =
     let m = c.args.memory.now in
     let r = c.args.regions in
     let g = grammar_of (spelling_in m) in
-    let shows = c.in-Some.ensures.1 in
+    let describes = c.in-Some.ensures.1 in
     let w = worked (layout_of r) _ m _ c.stack_end.ensures (omega (arith, c.stack_end.ensures, r.apart, r.within, c.requires.long)) c.next_signs.ensures.cleared in
-    wrong_told (layout_of r) m c.args.signs.now c.args.out.now g _ _ c.in-Some.ensures.0 w c.in-Wrong.place _ _ _
-    (c.in-Wrong.ensures.value w.fuel g shows (c.analyse-analysis.ensures.value g shows)) c.refuses.ensures
+    wrong_told (layout_of r) m c.args.signs.now c.args.out.now g _ _ c.in-Some.ensures.0 w c.in-Err-Wrong.place _ _ _
+    (rw c.in-Err-Wrong.field-0-is at (c.in-Err-Wrong.ensures.value w.fuel g describes)) c.refuses.ensures
 
-pub returns-in-GaveOut : goal.returns-in-GaveOut
-returns-in-GaveOut c =
+pub returns-in-Err-GaveOut : goal.returns-in-Err-GaveOut
+returns-in-Err-GaveOut c =
     let m = c.args.memory.now in
     let r = c.args.regions in
     let g = grammar_of (spelling_in m) in
-    let shows = c.in-Some.ensures.1 in
+    let describes = c.in-Some.ensures.1 in
     let w = worked (layout_of r) _ m _ c.stack_end.ensures (omega (arith, c.stack_end.ensures, r.apart, r.within, c.requires.long)) c.next_signs.ensures.cleared in
     unknown_told (layout_of r) m c.args.signs.now c.args.out.now g _ _ c.in-Some.ensures.0 w
-    (c.in-GaveOut.ensures.value w.fuel g shows (c.analyse-analysis.ensures.value g shows))
+    (rw c.in-Err-GaveOut.field-0-is at (c.in-Err-GaveOut.ensures.value w.fuel g describes))

@@ -16,9 +16,9 @@ returns c =
     let long = c.advance.auto.stack ∙ lent in
     let z = c.advance.new.stack in
     record {
-      rule = λ g shows analysed.
+      rule = λ g describes.
           ap (λ (s : List ℕ). advance_of g c.args.text.now (config_of s c.args.state.now)) (sym (lent_is (r.work + r.fuel) r.stack b e m c.stack_start.ensures stop))
-          ∙ c.advance.ensures.rule g shows analysed
+          ∙ c.advance.ensures.rule g describes
           ∙ ap (λ (s : List ℕ). advanced_by c.advance.result (config_of s c.advance.new.state)) (sym (lent_back (r.work + r.fuel) r.stack b e m c.stack_start.ensures stop z fits long));
       kept = lent_kept (r.work + r.fuel) r.stack b e m c.stack_start.ensures stop z fits long (λ i. (c.type_inv.memory i).fits);
       cleared = λ n. lent_cleared (r.work + r.fuel) r.stack b e m c.stack_start.ensures stop z _ lent (c.advance.ensures.cleared n).stack_is;
