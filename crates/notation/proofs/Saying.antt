@@ -2,11 +2,9 @@
 use Rattle.std.proofs.Common.{◌≡◌, ℕ, ◌+◌, ◌<◌, ◌≤◌, Bool, true, cond, ltb, List, [], ◌∷◌, ◌++◌, map, length, refl, ap, ◌∙◌, arith}
 use Rattle.grammar.specs.Grammar.{every}
 use Rattle.grammar.specs.Spelling.{byte_ok}
-use Rattle.std.specs.List.{flat_map}
 use Rattle.std.proofs.lemmas.List.{append_assoc, length-append}
 use Rattle.std.proofs.lemmas.Bool.{and_from, and_parts, lt-ltb}
-use Rattle.notation.specs.declared.rules.Rule.{Rule}
-use Rattle.notation.specs.Said.{TextSaid, load_said, rule_said}
+use Rattle.notation.specs.Said.{TextSaid}
 
 -- what a call that may fail for memory leaves, where it did not
 pub at_ok : {A : Type 0} (c x y : A) (t : Bool) → c ≡ cond t x y → t ≡ true → c ≡ x
@@ -56,9 +54,3 @@ every_none f xs e = rw e refl
 
 pub every_more : {A : Type 0} (f : A → Bool) (xs ys : List A) (x : A) → every f xs ≡ true → f x ≡ true → ys ≡ xs ++ x ∷ [] → every f ys ≡ true
 every_more f xs ys x h t e = ap (every f) e ∙ every_push f xs x h t
-
--- the whole command that loads rules
-pub load_said_all : (codes : List ℕ) (us rs : List Rule) (a b : List ℕ) (n : ℕ) → a ≡ 1 ∷ n ∷ 0 ∷ 1 ∷ 33 ∷ [] → b ≡ a ++ flat_map (rule_said codes) us → n ≡ length rs + 1 → us ≡ rs → b ≡ load_said codes rs
-load_said_all codes us rs a b n h k e u =
-    let j : flat_map (rule_said codes) us ≡ flat_map (rule_said codes) rs = ap (flat_map (rule_said codes)) u in
-    cc

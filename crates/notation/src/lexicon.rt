@@ -37,6 +37,7 @@ impl Words {
         ensures kept { take (length self.old.all.keys) self.new.all.keys ≡ self.old.all.keys }
         ensures stands { IfOk result (λ n. Finds [] (map string_bytes self.new.all.keys) word.now (Some n)) }
     {
+        // A word that is there needs no memory, and so cannot fail.
         if let Some(number) = self.find(word) {
             return Ok(number);
         }

@@ -16,7 +16,7 @@ const SYMBOLS: usize = 127;
 
 const NAMES: usize = 31;
 
-const SIGNS: u8 = 24;
+pub(crate) const SIGNS: u8 = 24;
 
 // A rule over the numbers of words.
 #[derive(Drop)]

@@ -5,7 +5,7 @@ ghost use Rattle.notation.specs.Said.{TextSaid, code_of, grammar_meant, load_sai
 ghost use Rattle.std.specs.List.{flat_map};
 
 use crate::fault::Fault;
-use crate::rules::{Notation, Rule};
+use crate::rules::{Notation, Rule, SIGNS};
 use std::alloc::Global;
 
 // The signs that a text may have.
@@ -80,7 +80,7 @@ impl Spelled<'_> {
             return Err(Fault::Unknown(String::from_str(heap, word)?));
         };
         let sign = self.code(number);
-        if sign >= 24 {
+        if sign >= SIGNS {
             return Err(Fault::Name(String::from_str(heap, word)?));
         }
         Ok(sign)

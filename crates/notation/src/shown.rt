@@ -104,7 +104,7 @@ impl<'a> Spelled<'a> {
         word.map_or("the end", |word| self.notation.words.word(word))
     }
 
-    // Two ways on: a rule that has come to its end, and another one, or to go on.
+    // Two ways on: a rule that has come to its end, and another one, or to go on, which the machine tells as 64.
     pub fn clash(
         &self,
         heap: Global,

@@ -1,4 +1,7 @@
 // Where a program that reads lines has them from.
+ghost use Rattle.std.specs.Prelude.{◌≡◌, Ok, MatchOption, codes};
+ghost use Rattle.notation.specs.declared.source.Source.TheVariants.{Help, Input};
+
 use anyhow::anyhow;
 use std::{env, fs};
 
@@ -13,15 +16,27 @@ pub enum Source {
 }
 
 impl Source {
-    /// What the words behind the program's own name say: none, `--help`, or the path of a file.
+    /// What the word behind the program's own name says.
     pub fn of(rt: &HostRuntime, program: &str) -> anyhow::Result<Source> {
-        let Some(word) = env::args(rt)?.nth(1) else {
+        let word = env::args(rt)?.nth(1);
+        Source::named(rt, program, word.as_deref())
+    }
+
+    // No word, `--help`, or the path of a file.
+    pub(crate) fn named(
+        rt: &HostRuntime,
+        program: &str,
+        word: Option<&str>,
+    ) -> anyhow::Result<Source>
+        ensures { MatchOption word.entry (result ≡ Ok Input) (λ w. w.now ≡ codes "--help" → result ≡ Ok Help) }
+    {
+        let Some(word) = word else {
             return Ok(Source::Input);
         };
-        if word.as_str() == "--help" {
+        if word == "--help" {
             return Ok(Source::Help);
         }
-        match fs::read_to_string(rt, word.as_str()) {
+        match fs::read_to_string(rt, word) {
             Ok(text) => Ok(Source::File(text)),
             Err(_) => {
                 eprintln!(rt; "{program}: {word} cannot be read")?;

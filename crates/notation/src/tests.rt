@@ -3,6 +3,7 @@ use crate::fault::Fault;
 use crate::rules::Notation;
 use crate::said::Spelled;
 use crate::shown;
+use crate::source::Source;
 use std::alloc::Global;
 use std::test::Fail;
 
@@ -105,5 +106,13 @@ fn rows_are_shown(rt: HostRuntime) -> Result<(), Fail> {
         "shows 1 64 0"
     );
     assert_eq!(rt; shown::row_text(heap, &[])?.as_str(), "shows");
+    Ok(())
+}
+
+#[test]
+fn words_name_a_source(rt: HostRuntime) -> Result<(), Fail> {
+    assert!(rt; matches!(Source::named(&rt, "it", None), Ok(Source::Input)));
+    assert!(rt; matches!(Source::named(&rt, "it", Some("--help")), Ok(Source::Help)));
+    assert!(rt; Source::named(&rt, "it", Some("no/file")).is_err());
     Ok(())
 }

@@ -6,6 +6,7 @@ use Rattle.notation.specs.Said.{code_of}
 use Rattle.notation.proofs.Saying.{rule_said_all}
 use Rattle.notation.proofs.said.Spelled.say_rule.Goals as goal
 
+-- what the chain gives is put behind the name and the count
 pub returns : goal.returns
 returns c =
     let codes = c.args.self.now.codes.now in
