@@ -3,7 +3,7 @@
 #![tactic(auto)]
 
 use anyhow::anyhow;
-use notation::shown::{reason, row_text};
+use notation::shown::row_text;
 use notation::source::Source;
 use reader::run::{first_row, run};
 use std::alloc::Global;
@@ -67,9 +67,9 @@ fn answer(
         return Ok(());
     };
     print_rows(rt, &shown[0..ended.used.min(shown.len())])?;
-    match ended.end {
-        0 => rt.println("done")?,
-        k => println!(rt; "refused, {k}: {}", reason(k))?,
+    match ended.refused {
+        None => rt.println("done")?,
+        Some(refusal) => println!(rt; "refused, {}: {refusal}", u64::from(refusal))?,
     }
     Ok(())
 }

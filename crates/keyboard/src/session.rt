@@ -5,6 +5,7 @@ use notation::rules::Notation;
 use notation::said::Spelled;
 use notation::shown;
 use reader::Told;
+use reader::refusal::Refusal;
 use std::alloc::{AllocError, Global};
 
 // The numbers of memory that the machine has.
@@ -27,11 +28,11 @@ impl From<Asked> for u8 {
     }
 }
 
-// What the machine does with one command: all numbers that it shows, and the number of its refusal.
+// What the machine does with one command: all numbers that it shows, and why it refuses it.
 #[derive(Drop)]
 struct Answer {
     shown: Vec<u64>,
-    refused: Option<u64>,
+    refused: Option<Refusal>,
 }
 
 #[derive(Drop)]
@@ -47,21 +48,21 @@ pub struct Session {
     machine: Machine,
 }
 
-fn refusal(heap: Global, number: u64) -> Result<String, AllocError> {
-    format!(in heap; "refused, {number}: {}", shown::reason(number))
+fn refused(heap: Global, refusal: Refusal) -> Result<String, AllocError> {
+    format!(in heap; "refused, {}: {refusal}", u64::from(refusal))
 }
 
 // Why a grammar is refused, in words.
 fn grammar_refused(
     heap: Global,
     spelled: &Spelled,
-    number: u64,
+    refusal: Refusal,
     row: &[u64],
 ) -> Result<String, AllocError> {
     match row {
         [due, other, ahead] => spelled.clash(heap, *due, *other, *ahead),
         [name] => spelled.notation.useless(heap, *name),
-        _ => refusal(heap, number),
+        _ => refused(heap, refusal),
     }
 }
 
@@ -74,7 +75,7 @@ fn text_answered(
     answer: &Answer,
 ) -> Result<String, Fault> {
     let shown = answer.shown.as_slice();
-    let Some(number) = answer.refused else {
+    let Some(refusal) = answer.refused else {
         return match asked {
             Asked::Read => notation.reading(heap, shown),
             Asked::Next => Ok(shown::row_text(heap, shown)?),
@@ -82,33 +83,31 @@ fn text_answered(
     };
     match (asked, shown) {
         (Asked::Read, [place]) => Ok(shown::wrong_at(heap, line, *place)?),
-        _ => Ok(refusal(heap, number)?),
+        _ => Ok(refused(heap, refusal)?),
     }
 }
 
 impl Machine {
-    // One command, to its end.
+    // One command, to its end. What it shows is kept in a row that grows, where `reader::run` has a lent one: a reading may have 2 to the 30 rules.
     fn ask(&mut self, heap: Global, bytes: &[u8]) -> Result<Answer, AllocError> {
         let mut shown = Vec::new(heap);
         let mut out = [0u64; 32];
         let mut kind = 0;
         for _ in 0..u64::MAX {
-            match reader::step(&mut self.memory, kind, bytes, &mut out) {
-                Told::Shows(n) => shown.extend(out.iter().copied().take(n as usize))?,
-                Told::Done => return Ok(Answer {
-                    shown,
-                    refused: None,
-                }),
-                Told::No(k) => return Ok(Answer {
-                    shown,
-                    refused: Some(k),
-                }),
-            }
-            kind = 1;
+            let refused = match reader::step(&mut self.memory, kind, bytes, &mut out) {
+                Told::Shows(n) => {
+                    shown.extend(out.iter().copied().take(n as usize))?;
+                    kind = 1;
+                    continue;
+                }
+                Told::Done => None,
+                Told::No(refusal) => Some(refusal),
+            };
+            return Ok(Answer { shown, refused });
         }
         Ok(Answer {
             shown,
-            refused: Some(0),
+            refused: Some(Refusal::Sizes),
         })
     }
 
@@ -119,11 +118,11 @@ impl Machine {
         }
         let bytes = spelled.load(heap)?;
         let answer = self.ask(heap, &bytes)?;
-        let Some(number) = answer.refused else {
+        let Some(refusal) = answer.refused else {
             self.loaded = true;
             return Ok(None);
         };
-        Ok(Some(grammar_refused(heap, spelled, number, &answer.shown)?))
+        Ok(Some(grammar_refused(heap, spelled, refusal, &answer.shown)?))
     }
 }
 

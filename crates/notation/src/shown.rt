@@ -151,17 +151,3 @@ pub fn row_text(heap: Global, row: &[u64]) -> Result<String, AllocError>
     }
     Ok(text)
 }
-
-/// What the number of a refusal means, where no more is told.
-pub fn reason(number: u64) -> &'static str {
-    match number {
-        0 => "sizes that do not fit",
-        1 => "no command",
-        2 => "a command that is not known yet",
-        3 => "there is no grammar",
-        4 => "no text of the grammar",
-        5 => "one sign ahead is not enough",
-        6 => "a name is of no use",
-        _ => "no such number",
-    }
-}
