@@ -94,8 +94,8 @@ fn converse(rt: &HostRuntime, text: &str) -> anyhow::Result<()> {
     Ok(())
 }
 
-fn start(rt: &HostRuntime) -> anyhow::Result<()> {
-    let text = match Source::of(rt, "console")? {
+fn main(rt: HostRuntime) -> anyhow::Result<()> {
+    let text = match Source::of(&rt, "console")? {
         Source::Help => {
             rt.println(HELP)?;
             return Ok(());
@@ -103,9 +103,5 @@ fn start(rt: &HostRuntime) -> anyhow::Result<()> {
         Source::Input => io::read_to_string(rt.alloc(), rt.stdin())?,
         Source::File(text) => text,
     };
-    converse(rt, &text)
-}
-
-fn main(rt: HostRuntime) -> anyhow::Result<()> {
-    start(&rt)
+    converse(&rt, &text)
 }

@@ -26,18 +26,14 @@ fn converse<R: BufRead + Drop>(rt: &HostRuntime, lines: R) -> anyhow::Result<()>
     Ok(())
 }
 
-fn run(rt: &HostRuntime) -> anyhow::Result<()> {
-    match Source::of(rt, "keyboard")? {
+fn main(rt: HostRuntime) -> anyhow::Result<()> {
+    match Source::of(&rt, "keyboard")? {
         Source::Help => {
             rt.println(help::USAGE)?;
             rt.println(help::LINES)?;
             Ok(())
         }
-        Source::Input => converse(rt, BufReader::new(rt.alloc(), rt.stdin())?),
-        Source::File(text) => converse(rt, text.as_bytes()),
+        Source::Input => converse(&rt, BufReader::new(rt.alloc(), rt.stdin())?),
+        Source::File(text) => converse(&rt, text.as_bytes()),
     }
-}
-
-fn main(rt: HostRuntime) -> anyhow::Result<()> {
-    run(&rt)
 }
