@@ -1,26 +1,26 @@
 -- What stands behind the next symbol of a place is the row at the next place; and an array of answers, made place by place.
-use Rattle.std.proofs.Common.{◌≡◌, ℕ, zero, suc, ◌+◌, ◌<◌, ◌≤◌, List, [], get_or, drop, sym, ap, ◌∙◌, subst, inl, inr, arith}
+use Rattle.std.proofs.Common.{◌≡◌, ℕ, zero, suc, ◌+◌, ◌<◌, ◌≤◌, true, false, List, [], get_or, drop, Option, is_some, sym, ap, ◌∙◌, subst, inl, inr, add-one, arith}
 use Rattle.std.specs.Array.{IsFromFnResultFrom}
 use denote.Param.Members.{Mut, Called}
 use Rattle.std.proofs.lemmas.Bool.{cases_eq}
 use Rattle.grammar.specs.declared.table.Table.{Table}
-use Rattle.grammar.specs.Grammar.{Sym, Grammar}
-use Rattle.grammar.specs.Places.{places}
-use Rattle.grammar.specs.Table.{Shows, ReadOff, code_in, symbol_in}
-use Rattle.grammar.proofs.Shown.{symbol_shown, complete_at, symbol_at_lem}
+use Rattle.grammar.specs.Grammar.{Sym}
+use Rattle.grammar.specs.Places.{rest}
+use Rattle.grammar.specs.declared.symbol.Symbol.{Symbol}
+use Rattle.grammar.specs.Symbols.{first_of_row, told_next}
+use Rattle.grammar.specs.Table.{ReadOff}
+use Rattle.grammar.proofs.NextSymbols.{none_next, symbol_next}
+use Rattle.grammar.proofs.Places.{place_next}
 
--- the code that is read at a place is the one that the table has
-code_read : {t : Table} {g : Grammar} → Shows t g → (p : ℕ) → p < places g → (c : ℕ) → c ≡ symbol_in t p → code_in t p ≡ c
-code_read s p h c e = s.holds.symbols p h ∙ sym (symbol_shown s p h) ∙ sym e
-
-module _ {A : Type 0} {t : Table} (f : List Sym → A) (p c : ℕ) (e : c ≡ symbol_in t p) (r : A) where
-  pub behind_symbol : c < 64 → ReadOff t f (p + 1) r → ReadOff t (λ β. f (drop 1 β)) p r
+module _ {A : Type 0} {t : Table} (f : List Sym → A) (p : ℕ) (n : Option Symbol) (e : ReadOff t first_of_row p (told_next n)) (r : A) where
+  pub behind_symbol : is_some n ≡ true → ReadOff t f (p + 1) r → ReadOff t (λ β. f (drop 1 β)) p r
   behind_symbol k read g s h =
-      let n = symbol_at_lem s p h (omega (arith, code_read s p h c e)) in
-      read g s n.1 ∙ ap (λ β. f (drop 1 β)) (sym n.0)
+      let x = symbol_next n (rest g p) (e g s h) k in
+      let b = place_next g p x.0 x.1 x.2 in
+      read g s (omega (arith, b.within)) ∙ ap f (ap (rest g) (add-one p) ∙ b.rests) ∙ ap (λ β. f (drop 1 β)) (sym x.2)
 
-  pub behind_complete : 64 ≤ c → r ≡ f [] → ReadOff t (λ β. f (drop 1 β)) p r
-  behind_complete k q g s h = q ∙ ap (λ β. f (drop 1 β)) (sym (complete_at s p h (omega (arith, code_read s p h c e))))
+  pub behind_complete : is_some n ≡ false → r ≡ f [] → ReadOff t (λ β. f (drop 1 β)) p r
+  behind_complete k q g s h = q ∙ ap (λ β. f (drop 1 β)) (sym (none_next n (rest g p) (e g s h) k))
 
 -- calls at 0, 1, .. that change nothing of what the closure has, one for each element
 pub made_each : {F B : Type 0} (m : Mut F (ℕ × Unit {0}) B) (P : ℕ → B → Type 0) (f : F) →

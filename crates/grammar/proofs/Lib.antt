@@ -18,6 +18,7 @@ pub mod Nullable
 pub mod FirstSets
 pub mod Productive
 pub mod Named
+pub mod NextSymbols
 pub mod Reachable
 pub mod Useless
 pub mod Places

@@ -1,15 +1,14 @@
 -- The bytes of the row that comes at a place, and what is read off them.
---     vanishing_codes, producing_codes, opened_sign, opened_end, opened_more, opened_all, named_codes      what is read off a row of bytes, and byte by byte
+--     vanishing_codes, producing_codes, opened_more, opened_end, named_codes      what is read off a row of bytes, and byte by byte
 --     read_codes      and that it is read off the row at the place
-use Rattle.std.proofs.Common.{◌≡◌, ℕ, ◌+◌, ◌-◌, ◌<◌, ◌≤◌, Bool, cond, false, true, ◌&&◌, ◌||◌, ltb, leb, List, [], ◌∷◌, length, get_or, drop, sym, refl, ap, ◌∙◌, inl, inr}
+use Rattle.std.proofs.Common.{◌≡◌, ℕ, ◌+◌, ◌<◌, ◌≤◌, Bool, false, true, ◌&&◌, List, [], ◌∷◌, length, get_or, drop, sym, refl, ap, ◌∙◌}
 use lib.Bits.{bit_or, or_zero_r}
 use Rattle.std.specs.List.{fold, list_all}
 use Rattle.std.proofs.lemmas.List.{drop_all, drop_more}
-use Rattle.std.proofs.lemmas.Bool.{cases_lt, lt-ltb, le-ltb, le-leb, lt-leb}
 use Rattle.words.specs.Bits.{has_bit, bit_of}
 use Rattle.words.proofs.RowLaws.{or_assoc}
 use Rattle.grammar.specs.declared.table.Table.{Table}
-use Rattle.grammar.specs.Grammar.{pick, each, Sym}
+use Rattle.grammar.specs.Grammar.{pick, each, Sym, sign, name}
 use Rattle.grammar.specs.Spelling.{sym_of}
 use Rattle.grammar.specs.Places.{rest}
 use Rattle.grammar.specs.Rows.{vanishing, producing, opening, named}
@@ -17,75 +16,82 @@ use Rattle.grammar.specs.Table.{ReadOff, RowAt}
 use Rattle.grammar.proofs.Spelled.{syms_of_spelled}
 use Rattle.grammar.proofs.Places.{rest_fits}
 
--- ---- what is read off, by the code of the first symbol
+-- ---- what is read off, by the first symbol
 
-vanishing_code : (N b : ℕ) (β : List Sym) → vanishing N (sym_of b ∷ β) ≡ ((leb 32 b && has_bit (b - 32) N) && vanishing N β)
+and_true : (a : Bool) → (a && true) ≡ a
+and_true true = refl
+and_true false = refl
+
+vanishing_more : (N : ℕ) (x : Sym) (β : List Sym) → vanishing N (x ∷ β) ≡ (vanishing N (x ∷ []) && vanishing N β)
 unfolding vanishing
-vanishing_code N b β =
-    elim (cases_lt b 32) [ inl l ↦ rw (lt-ltb b 32 l, lt-leb 32 b l) | inr l ↦ rw (le-ltb b 32 l, le-leb 32 b l) ]
+vanishing_more N (sign t) β = refl
+vanishing_more N (name n) β = ap (λ a. a && vanishing N β) (sym (and_true (has_bit n N)))
 
-producing_code : (P b : ℕ) (β : List Sym) → producing P (sym_of b ∷ β) ≡ ((ltb b 32 || has_bit (b - 32) P) && producing P β)
+producing_more : (P : ℕ) (x : Sym) (β : List Sym) → producing P (x ∷ β) ≡ (producing P (x ∷ []) && producing P β)
 unfolding producing
-producing_code P b β = elim (cases_lt b 32) [ inl l ↦ rw (lt-ltb b 32 l) | inr l ↦ rw (le-ltb b 32 l) ]
+producing_more P (sign t) β = refl
+producing_more P (name n) β = ap (λ a. a && producing P β) (sym (and_true (has_bit n P)))
 
-opening_sign : (N : ℕ) (F : List ℕ) (b : ℕ) (β : List Sym) → b < 32 → opening N F (sym_of b ∷ β) ≡ bit_of b
+opening_name : (N : ℕ) (F : List ℕ) (m n : ℕ) (β : List Sym) (v : Bool) → has_bit n N ≡ v →
+    bit_or m (opening N F (name n ∷ β)) ≡ bit_or (bit_or m (get_or F n 0)) (pick v (opening N F β) 0)
 unfolding opening
-opening_sign N F b β l = rw (lt-ltb b 32 l)
+opening_name N F m n β v e = rw e (sym (or_assoc m (get_or F n 0) (pick v (opening N F β) 0)))
 
-opening_name : (N : ℕ) (F : List ℕ) (m b : ℕ) (β : List Sym) (v : Bool) → 32 ≤ b → has_bit (b - 32) N ≡ v →
-    bit_or m (opening N F (sym_of b ∷ β)) ≡ bit_or (bit_or m (get_or F (b - 32) 0)) (pick v (opening N F β) 0)
-unfolding opening
-opening_name N F m b β v l e = rw (le-ltb b 32 l, e) (sym (or_assoc m (get_or F (b - 32) 0) (pick v (opening N F β) 0)))
-
-named_code : (m b : ℕ) (β : List Sym) → bit_or m (named (sym_of b ∷ β)) ≡ bit_or (bit_or m (cond (leb 32 b) (bit_of (b - 32)) 0)) (named β)
+named_more : (m : ℕ) (x : Sym) (β : List Sym) → bit_or m (named (x ∷ β)) ≡ bit_or (bit_or m (named (x ∷ []))) (named β)
 unfolding named
-named_code m b β =
-    elim (cases_lt b 32) [
-      | inl l ↦ rw (lt-ltb b 32 l, lt-leb 32 b l, or_zero_r m)
-      | inr l ↦ rw (le-ltb b 32 l, le-leb 32 b l) (sym (or_assoc m (bit_of (b - 32)) (named β)))
-    ]
+named_more m (sign t) β = rw (or_zero_r m) refl
+named_more m (name n) β = rw (or_zero_r (bit_of n)) (sym (or_assoc m (bit_of n) (named β)))
+
+pub named_sign : (t : ℕ) → named (sign t ∷ []) ≡ 0
+unfolding named
+named_sign t = refl
+
+pub named_name : (n : ℕ) → named (name n ∷ []) ≡ bit_of n
+unfolding named
+named_name n = or_zero_r (bit_of n)
 
 -- ---- and by all its bytes
 
-pub vanishing_codes : (N : ℕ) (bs : List ℕ) → list_all (λ b. leb 32 b && has_bit (b - 32) N) bs ≡ vanishing N (each sym_of bs)
+pub vanishing_codes : (N : ℕ) (bs : List ℕ) → list_all (λ b. vanishing N (sym_of b ∷ [])) bs ≡ vanishing N (each sym_of bs)
 unfolding each vanishing
 vanishing_codes N [] = refl
-vanishing_codes N (b ∷ bs) = rw (vanishing_codes N bs) (sym (vanishing_code N b (each sym_of bs)))
+vanishing_codes N (b ∷ bs) = rw (vanishing_codes N bs) (sym (vanishing_more N (sym_of b) (each sym_of bs)))
 
-pub producing_codes : (P : ℕ) (bs : List ℕ) → list_all (λ b. ltb b 32 || has_bit (b - 32) P) bs ≡ producing P (each sym_of bs)
+pub producing_codes : (P : ℕ) (bs : List ℕ) → list_all (λ b. producing P (sym_of b ∷ [])) bs ≡ producing P (each sym_of bs)
 unfolding each producing
 producing_codes P [] = refl
-producing_codes P (b ∷ bs) = rw (producing_codes P bs) (sym (producing_code P b (each sym_of bs)))
+producing_codes P (b ∷ bs) = rw (producing_codes P bs) (sym (producing_more P (sym_of b) (each sym_of bs)))
 
-pub named_codes : (m : ℕ) (bs : List ℕ) → fold (λ a b. bit_or a (cond (leb 32 b) (bit_of (b - 32)) 0)) m bs ≡ bit_or m (named (each sym_of bs))
+pub named_codes : (m : ℕ) (bs : List ℕ) → fold (λ a b. bit_or a (named (sym_of b ∷ []))) m bs ≡ bit_or m (named (each sym_of bs))
 unfolding each named
 named_codes m [] = sym (or_zero_r m)
-named_codes m (b ∷ bs) = named_codes (bit_or m (cond (leb 32 b) (bit_of (b - 32)) 0)) bs ∙ sym (named_code m b (each sym_of bs))
+named_codes m (b ∷ bs) = named_codes (bit_or m (named (sym_of b ∷ []))) bs ∙ sym (named_more m (sym_of b) (each sym_of bs))
 
 -- the signs so far, of a row whose bytes from i on are still to come
 abbrev pub OpenedTo : ℕ → List ℕ → List ℕ → ℕ → ℕ → Type 0
 OpenedTo N F bs i signs = bit_or signs (opening N F (each sym_of (drop i bs))) ≡ opening N F (each sym_of bs)
 
 module _ (N : ℕ) (F bs : List ℕ) (i signs : ℕ) (o : OpenedTo N F bs i signs) where
-  at_byte : i < length bs → each sym_of (drop i bs) ≡ sym_of (get_or bs i 0) ∷ each sym_of (drop (i + 1) bs)
+  at_symbol : (x : Sym) → i < length bs → x ≡ sym_of (get_or bs i 0) → each sym_of (drop i bs) ≡ x ∷ each sym_of (drop (i + 1) bs)
   unfolding each
-  at_byte h = ap (each sym_of) (drop_more bs i 0 h)
+  at_symbol x h e = ap (each sym_of) (drop_more bs i 0 h) ∙ ap (λ y. y ∷ each sym_of (drop (i + 1) bs)) (sym e)
 
-  pub opened_sign : i < length bs → get_or bs i 0 < 32 → bit_or signs (bit_of (get_or bs i 0)) ≡ opening N F (each sym_of bs)
-  opened_sign h k =
-      ap (bit_or signs) (sym (opening_sign N F _ (each sym_of (drop (i + 1) bs)) k) ∙ ap (opening N F) (sym (at_byte h))) ∙ o
+  pub opened_sign : (t : ℕ) → i < length bs → sign t ≡ sym_of (get_or bs i 0) → bit_or signs (bit_of t) ≡ opening N F (each sym_of bs)
+  unfolding opening
+  opened_sign t h e = ap (λ γ. bit_or signs (opening N F γ)) (sym (at_symbol (sign t) h e)) ∙ o
 
-  opened_name : (v : Bool) → i < length bs → 32 ≤ get_or bs i 0 → has_bit (get_or bs i 0 - 32) N ≡ v →
-      bit_or (bit_or signs (get_or F (get_or bs i 0 - 32) 0)) (pick v (opening N F (each sym_of (drop (i + 1) bs))) 0) ≡ opening N F (each sym_of bs)
-  opened_name v h k e = sym (opening_name N F signs _ (each sym_of (drop (i + 1) bs)) v k e) ∙ ap (λ γ. bit_or signs (opening N F γ)) (sym (at_byte h)) ∙ o
+  opened_name : (v : Bool) (n : ℕ) → i < length bs → name n ≡ sym_of (get_or bs i 0) → has_bit n N ≡ v →
+      bit_or (bit_or signs (get_or F n 0)) (pick v (opening N F (each sym_of (drop (i + 1) bs))) 0) ≡ opening N F (each sym_of bs)
+  opened_name v n h e k =
+      sym (opening_name N F signs n (each sym_of (drop (i + 1) bs)) v k) ∙ ap (λ γ. bit_or signs (opening N F γ)) (sym (at_symbol (name n) h e)) ∙ o
 
-  pub opened_end : i < length bs → 32 ≤ get_or bs i 0 → has_bit (get_or bs i 0 - 32) N ≡ false →
-      bit_or signs (get_or F (get_or bs i 0 - 32) 0) ≡ opening N F (each sym_of bs)
-  opened_end h k e = sym (or_zero_r _) ∙ opened_name false h k e
+  pub opened_end : (n : ℕ) → i < length bs → name n ≡ sym_of (get_or bs i 0) → has_bit n N ≡ false →
+      bit_or signs (get_or F n 0) ≡ opening N F (each sym_of bs)
+  opened_end n h e k = sym (or_zero_r _) ∙ opened_name false n h e k
 
-  pub opened_more : i < length bs → 32 ≤ get_or bs i 0 → has_bit (get_or bs i 0 - 32) N ≡ true →
-      OpenedTo N F bs (i + 1) (bit_or signs (get_or F (get_or bs i 0 - 32) 0))
-  opened_more h k e = opened_name true h k e
+  pub opened_more : (n : ℕ) → i < length bs → name n ≡ sym_of (get_or bs i 0) → has_bit n N ≡ true →
+      OpenedTo N F bs (i + 1) (bit_or signs (get_or F n 0))
+  opened_more n h e k = opened_name true n h e k
 
   pub opened_all : length bs ≤ i → signs ≡ opening N F (each sym_of bs)
   unfolding each opening

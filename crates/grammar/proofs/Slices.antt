@@ -18,7 +18,7 @@ cut_more : (x : ℕ) (xs : List ℕ) → x < 64 → take_while (λ c. ltb c 64) 
 cut_more x xs h =
     let e : 1 + prefix_len (λ c. ltb c 64) xs ≡ suc (prefix_len (λ c. ltb c 64) xs) = omega arith in rw (lt-ltb x 64 h, e)
 
-code_below : (x : Sym) (β : List Sym) → every sym_fits (x ∷ β) ≡ true → next_code (x ∷ β) < 64
+pub code_below : (x : Sym) (β : List Sym) → every sym_fits (x ∷ β) ≡ true → next_code (x ∷ β) < 64
 code_below x β h =
     elim (code_range (x ∷ β) h) [ inl l ↦ omega arith | inr (inl l) ↦ l.1 | inr (inr l) ↦ let e = code_complete (x ∷ β) h l in never (cc) ]
 

@@ -7,7 +7,7 @@ use Rattle.grammar.specs.Spelling.{sym_spelled, flat, rule_spelled, grammar_spel
 use Rattle.grammar.proofs.Sizes.{all_fit, symbol_count}
 
 -- symbols and their bytes
-sym_of_spelled : (s : Sym) → sym_fits s ≡ true → sym_of (sym_spelled s) ≡ s
+pub sym_of_spelled : (s : Sym) → sym_fits s ≡ true → sym_of (sym_spelled s) ≡ s
 unfolding sym_fits sym_spelled
 sym_of_spelled (sign n) h = let k : n < 32 = omega (arith, ltb-true n 24 h) in rw (lt-ltb n 32 k)
 sym_of_spelled (name n) h =

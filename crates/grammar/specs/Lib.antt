@@ -5,6 +5,7 @@ pub mod Trees
 pub mod Spelling
 pub mod First
 pub mod Places
+pub mod Symbols
 pub mod Prepared
 pub mod Table
 pub mod Rows

@@ -11,7 +11,7 @@ ghost use Rattle.grammar.specs.Rows.{producing, vanishing};
 ghost use Rattle.grammar.specs.Table.{OfGrammar, OfRule, OfGrammarWith};
 
 use crate::rows::{row_names, row_opening, row_produces, row_vanishes};
-use crate::table::{COMPLETE, Table};
+use crate::table::Table;
 use std::array;
 use words::bits;
 use words::rounds::{each_in, until_still};
@@ -210,7 +210,7 @@ impl Analysis {
 fn behind_of(table: &Table, place: usize, nullable: u64, firsts: &[u64]) -> Behind
     ensures { IsBehind table.now nullable firsts.now place result }
 {
-    if table.symbol_at(place) >= COMPLETE {
+    if table.next_at(place).is_none() {
         return Behind {
             signs: 0,
             vanishes: true,

@@ -6,4 +6,5 @@ pub mod prepared;
 pub mod rows;
 pub mod spelling;
 pub mod statements;
+pub mod symbol;
 pub mod table;

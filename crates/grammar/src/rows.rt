@@ -1,18 +1,23 @@
 // What is read off the row of symbols that comes at a place: whether it can vanish, comes to signs, what it can begin with, its names.
-ghost use Rattle.std.specs.Prelude.{◌≡◌, ◌-◌, ◌&&◌, ◌||◌, leb, if◌then◌else◌, nat_le, nat_lt};
-ghost use Rattle.words.specs.Bits.{bit_of, has_bit};
+ghost use Rattle.std.specs.Prelude.{◌≡◌, [], ◌∷◌};
 ghost use Rattle.grammar.specs.Rows.{named, opening, producing, vanishing};
+ghost use Rattle.grammar.specs.Symbols.{told};
 ghost use Rattle.grammar.specs.Table.{ReadOff};
 
-use crate::table::{FIRST_NAME, Table};
+use crate::symbol::Symbol;
+use crate::table::Table;
 use words::bits;
 use words::rows::at;
 
 /// Whether a symbol can vanish, if these names can.
-fn can_vanish(code: u8, nullable: u64) -> bool
-    ensures { result ≡ (nat_le 32 code && has_bit (code - 32) nullable) }
+#[tactic(auto, unfolding(crate::specs::Rows::vanishing))]
+fn can_vanish(symbol: Symbol, nullable: u64) -> bool
+    ensures { result ≡ vanishing nullable (told symbol ∷ []) }
 {
-    code >= FIRST_NAME && bits::test(nullable, (code - FIRST_NAME) as u64)
+    match symbol {
+        Symbol::Sign(_) => false,
+        Symbol::Name(name) => bits::test(nullable, u64::from(name)),
+    }
 }
 
 /// Whether the row that comes at a place can vanish, if these names can.
@@ -22,14 +27,18 @@ pub fn row_vanishes(table: &Table, from: usize, nullable: u64) -> bool
     table
         .row_at(from)
         .iter()
-        .all(|code| can_vanish(*code, nullable))
+        .all(|code| can_vanish(Symbol::from(*code), nullable))
 }
 
 /// Whether a symbol comes to signs, if these names do.
-fn comes_to_signs(code: u8, productive: u64) -> bool
-    ensures { result ≡ (nat_lt code 32 || has_bit (code - 32) productive) }
+#[tactic(auto, unfolding(crate::specs::Rows::producing))]
+fn comes_to_signs(symbol: Symbol, productive: u64) -> bool
+    ensures { result ≡ producing productive (told symbol ∷ []) }
 {
-    code < FIRST_NAME || bits::test(productive, (code - FIRST_NAME) as u64)
+    match symbol {
+        Symbol::Sign(_) => true,
+        Symbol::Name(name) => bits::test(productive, u64::from(name)),
+    }
 }
 
 /// Whether the row that comes at a place comes to signs, if these names do.
@@ -39,7 +48,7 @@ pub fn row_produces(table: &Table, from: usize, productive: u64) -> bool
     table
         .row_at(from)
         .iter()
-        .all(|code| comes_to_signs(*code, productive))
+        .all(|code| comes_to_signs(Symbol::from(*code), productive))
 }
 
 /// The signs that the row that comes at a place can begin with, if these names can vanish and each name can begin with these signs.
@@ -49,12 +58,12 @@ pub fn row_opening(table: &Table, from: usize, nullable: u64, firsts: &[u64]) ->
     let row = table.row_at(from);
     let mut signs = 0;
     for code in row {
-        if *code < FIRST_NAME {
-            return bits::with(signs, *code as u64);
-        }
-        let name = *code - FIRST_NAME;
-        signs |= at(firsts, name as usize);
-        if !bits::test(nullable, name as u64) {
+        let name = match Symbol::from(*code) {
+            Symbol::Sign(sign) => return bits::with(signs, u64::from(sign)),
+            Symbol::Name(name) => name,
+        };
+        signs |= at(firsts, usize::from(name));
+        if !bits::test(nullable, u64::from(name)) {
             return signs;
         }
     }
@@ -62,13 +71,13 @@ pub fn row_opening(table: &Table, from: usize, nullable: u64, firsts: &[u64]) ->
 }
 
 /// The mark of a symbol: a name's bit, and none of a sign.
-fn name_mark(code: u8) -> u64
-    ensures { result ≡ (if leb 32 code then bit_of (code - 32) else 0) }
+#[tactic(auto, using(crate::proofs::RowBytes::named_sign, crate::proofs::RowBytes::named_name))]
+fn name_mark(symbol: Symbol) -> u64
+    ensures { result ≡ named (told symbol ∷ []) }
 {
-    if code >= FIRST_NAME {
-        bits::bit((code - FIRST_NAME) as u64)
-    } else {
-        0
+    match symbol {
+        Symbol::Sign(_) => 0,
+        Symbol::Name(name) => bits::bit(u64::from(name)),
     }
 }
 
@@ -79,5 +88,5 @@ pub fn row_names(table: &Table, from: usize) -> u64
     table
         .row_at(from)
         .iter()
-        .fold(0, |names, code| names | name_mark(*code))
+        .fold(0, |names, code| names | name_mark(Symbol::from(*code)))
 }

@@ -1,9 +1,11 @@
 // A grammar as a table: what comes next at each of its places, and which rule the place is in.
 ghost use Rattle.std.specs.Prelude.{◌≡◌, ◌+◌, ◌<◌, [], length, nat_lt};
 ghost use Rattle.std.specs.List.{prefix_len};
-ghost use Rattle.grammar.specs.Table.{Added, Answers, Holds, NumberOf, PlaceOf, RowAt, first_in, owner_in, symbol_in, left_in};
+ghost use Rattle.grammar.specs.Symbols.{first_of_row, next_of, told_next};
+ghost use Rattle.grammar.specs.Table.{Added, Answers, Holds, NumberOf, PlaceOf, ReadOff, RowAt, first_in, owner_in, symbol_in, left_in};
 
 use crate::spelling::is_grammar;
+use crate::symbol::Symbol;
 
 // Symbols stay the bytes of the spelling, so that a row is copied from it in one piece.
 /// What stands at the place behind the last symbol of a rule.
@@ -56,6 +58,15 @@ impl Table {
         ensures { result ≡ symbol_in self.now place }
     {
         self.symbols.get(place).copied().unwrap_or(COMPLETE)
+    }
+
+    /// The symbol that comes next at a place; none at a complete one.
+    pub fn next_at(&self, place: usize) -> Option<Symbol>
+        ensures value { told_next result ≡ next_of (symbol_in self.now place) }
+        ensures meaning { ReadOff self.now first_of_row place (told_next result) }
+    {
+        let code = self.symbol_at(place);
+        (code < COMPLETE).then_some(Symbol::from(code))
     }
 
     /// The rule that a place is in.

@@ -1,17 +1,17 @@
-use Rattle.std.proofs.Common.{refl, arith}
+use Rattle.std.proofs.Common.{refl}
 use Rattle.grammar.specs.Rows.{opening, vanishing}
 use Rattle.grammar.proofs.Behind.{behind_symbol, behind_complete}
 use Rattle.grammar.proofs.analysis.behind_of.Goals as goal
 
-pub returns-then-symbol_at-ge-COMPLETE : goal.returns-then-symbol_at-ge-COMPLETE
+pub returns-then-is_none : goal.returns-then-is_none
 unfolding opening vanishing
-returns-then-symbol_at-ge-COMPLETE c = record {
-  signs = behind_complete (opening c.args.nullable c.args.firsts.now) c.args.place _ c.symbol_at.ensures _ (omega arith) refl;
-  vanishes = behind_complete (vanishing c.args.nullable) c.args.place _ c.symbol_at.ensures _ (omega arith) refl;
+returns-then-is_none c = record {
+  signs = behind_complete (opening c.args.nullable c.args.firsts.now) c.args.place _ c.next_at.ensures.meaning _ c.if-is_none.ensures refl;
+  vanishes = behind_complete (vanishing c.args.nullable) c.args.place _ c.next_at.ensures.meaning _ c.if-is_none.ensures refl;
 }
 
 pub returns : goal.returns
 returns c = record {
-  signs = behind_symbol (opening c.args.nullable c.args.firsts.now) c.args.place _ c.symbol_at.ensures _ (omega arith) c.row_opening.ensures;
-  vanishes = behind_symbol (vanishing c.args.nullable) c.args.place _ c.symbol_at.ensures _ (omega arith) c.row_vanishes.ensures;
+  signs = behind_symbol (opening c.args.nullable c.args.firsts.now) c.args.place _ c.next_at.ensures.meaning _ c.if-is_none.ensures c.row_opening.ensures;
+  vanishes = behind_symbol (vanishing c.args.nullable) c.args.place _ c.next_at.ensures.meaning _ c.if-is_none.ensures c.row_vanishes.ensures;
 }
