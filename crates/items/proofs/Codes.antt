@@ -1,16 +1,23 @@
 -- What a table that shows a grammar says of the symbol that is next at a place.
-use Rattle.std.proofs.Common.{◌≡◌, ℕ, ◌+◌, ◌<◌, Bool, true, false, not, ◌&&◌, eqb, ltb, leb, List, [], ◌∷◌, length, sym, refl, ap, ◌∙◌, ⊎_elim, arith}
+use Rattle.std.proofs.Common.{◌≡◌, ℕ, ◌+◌, ◌<◌, Bool, true, false, not, ◌&&◌, eqb, ltb, leb, List, [], ◌∷◌, length, sym, refl, ap, ◌∙◌, ⊎_elim, arith, ◌≤◌, Some, None, Option, is_some}
 use mathlib.Core.Bool.{false≢true}
-use Rattle.std.proofs.lemmas.Bool.{and_from, and_parts, cases_eq, eq-eqb, eqb-true, le-leb, lt-ltb, ne_eqb, ltb-true}
+use Rattle.std.proofs.lemmas.Bool.{and_from, and_parts, cases_eq, cases_lt, le-ltb, eq-eqb, eqb-true, le-leb, lt-ltb, ne_eqb, ltb-true}
 use Rattle.words.specs.Rows.{or_at}
 use Rattle.words.proofs.RowLaws.{or_at_none}
+use Rattle.grammar.specs.declared.symbol.Symbol.{Symbol}
+use Rattle.grammar.specs.declared.symbol.Symbol.TheVariants.{Sign, Name}
 use Rattle.grammar.specs.declared.table.Table.{Table}
+use Rattle.grammar.specs.contracts.symbol.SymbolPartialEq.TheImpl.{eq-value}
+use Rattle.grammar.specs.Symbols.{first_of_row, told_next}
+use Rattle.grammar.proofs.Lists.{never}
+use Rattle.std.specs.Option.{option_eq}
 use Rattle.grammar.specs.Grammar.{pick, every, Sym, sign, name, Grammar, rule, sym_fits}
 use Rattle.grammar.specs.Spelling.{sym_spelled}
 use Rattle.grammar.specs.Places.{places, rest, first_place_lem, next_code}
 use Rattle.grammar.specs.Rows.{begins_with}
 use Rattle.grammar.specs.Table.{Shows, symbol_in, left_in}
 use Rattle.grammar.proofs.Places.{rest_fits}
+use Rattle.grammar.proofs.NextSymbols.{none_next, code_none, code_next_sign, code_next_name}
 use Rattle.grammar.proofs.Shown.{symbol_shown}
 use Rattle.grammar.proofs.Sizes.{sizes}
 use Rattle.items.specs.Sets.{begin_rule}
@@ -63,3 +70,42 @@ module _ {t : Table} {g : Grammar} (s : Shows t g) where
 
   pub code_no : (c p x : ℕ) → p < places g → x ≡ symbol_in t p → (x ≡ c → ⊥) → eqb (next_code (rest g p)) c ≡ false
   code_no c p x h e d = ne_eqb _ _ (λ f. d (e ∙ symbol_shown s p h ∙ f))
+
+-- ---- what the symbol that code reads there says
+
+swap_eqb : (a b : ℕ) → eqb a b ≡ eqb b a
+swap_eqb a b =
+    ⊎_elim (λ e. eq-eqb a b e ∙ sym (eq-eqb b a (sym e))) (λ d. ne_eqb a b d ∙ sym (ne_eqb b a (λ e. d (sym e)))) (cases_eq a b)
+
+-- whether it is this name
+pub begins_next : (n : Option Symbol) (k : ℕ) (β : List Sym) → told_next n ≡ first_of_row β → option_eq eq-value.it n (Some (Name k)) ≡ begins_with k β
+unfolding first_of_row begins_with
+begins_next None k [] e = refl
+begins_next None k (x ∷ β) e = never (cc)
+begins_next (Some y) k [] e = never (cc)
+begins_next (Some (Sign t)) k (sign u ∷ β) e = refl
+begins_next (Some (Sign t)) k (name u ∷ β) e = never (cc)
+begins_next (Some (Name m)) k (sign u ∷ β) e = never (cc)
+begins_next (Some (Name m)) k (name u ∷ β) e = let d : m ≡ u = cc in swap_eqb m k ∙ ap (eqb k) d
+
+-- whether it is this sign, and b
+pub past_signs : (x a : ℕ) (b : Bool) → 24 ≤ x → (ltb a 24 && (eqb x a && b)) ≡ false
+past_signs x a b h =
+    ⊎_elim (λ l. let n : eqb x a ≡ false = ne_eqb x a (λ e. omega arith) in rw (lt-ltb a 24 l, n) refl) (λ l. rw (le-ltb a 24 l) refl)
+    (cases_lt a 24)
+
+sign_at : (x a : ℕ) (b : Bool) → x < 24 → (ltb a 24 && (eqb x a && b)) ≡ (eqb x a && b)
+sign_at x a b h =
+    ⊎_elim (λ l. rw (lt-ltb a 24 l) refl) (λ l. let n : eqb x a ≡ false = ne_eqb x a (λ e. omega arith) in rw (le-ltb a 24 l, n) refl)
+    (cases_lt a 24)
+
+pub sign_next : (n : Option Symbol) (a : ℕ) (b : Bool) (β : List Sym) → told_next n ≡ first_of_row β → every sym_fits β ≡ true →
+    (option_eq eq-value.it n (Some (Sign a)) && b) ≡ (ltb a 24 && (eqb (next_code β) a && b))
+sign_next None a b β e h = sym (rw (code_none β e) (past_signs 64 a b (omega arith)))
+sign_next (Some (Sign t)) a b β e h = let d = code_next_sign β t e h in sym (rw d.0 (sign_at t a b d.1))
+sign_next (Some (Name m)) a b β e h = let d = code_next_name β m e h in sym (rw d.0 (past_signs (32 + m) a b (omega arith)))
+
+-- a complete place has none
+pub complete_next : (n : Option Symbol) (b c : Bool) (β : List Sym) → told_next n ≡ first_of_row β → is_some n ≡ false → c ≡ b → c ≡ (eqb (next_code β) 64 && b)
+unfolding next_code
+complete_next n b c β e k d = let z = none_next n β e k in rw z d

@@ -1,18 +1,16 @@
 -- The signs before which there is an action: at one place by its symbol and its word, and from place to place.
-use Rattle.std.proofs.Common.{◌≡◌, ℕ, ◌+◌, ◌<◌, ◌≤◌, Bool, true, false, not, ◌&&◌, ◌||◌, eqb, ltb, ◌⊎◌, List, [], ◌∷◌, sym, refl, ap, ◌∙◌, ap₂, inl, inr, ⊎_elim, slice_index, arith}
+use Rattle.std.proofs.Common.{◌≡◌, ℕ, ◌+◌, ◌<◌, ◌≤◌, Bool, true, false, not, ◌&&◌, ◌||◌, eqb, ltb, List, [], ◌∷◌, sym, refl, ap, ◌∙◌, ap₂, ⊎_elim, slice_index, arith}
 use lib.Bits.{bit_or}
-use Rattle.std.proofs.lemmas.Bool.{and_right, cases_lt, cases_eq, lt-ltb, le-ltb, eq-eqb, ne_eqb}
+use Rattle.std.proofs.lemmas.Bool.{and_right, cases_eq, lt-ltb, eq-eqb, ne_eqb}
 use Rattle.words.specs.Bits.{has_bit, bit_of}
 use Rattle.words.specs.Iter.{counted}
 use Rattle.words.proofs.BitLaws.{has_or, has_zero, has_bit_of}
 use Rattle.words.proofs.Fixpoint.{counted_more}
 use Rattle.grammar.specs.Grammar.{pick, none_of, Grammar}
-use Rattle.grammar.specs.Places.{places, owner}
-use Rattle.grammar.specs.Table.{Shows, symbol_in}
-use Rattle.grammar.specs.declared.table.Table.{Table}
-use Rattle.grammar.proofs.Shown.{symbol_shown}
+use Rattle.grammar.specs.Places.{owner, rest, next_code}
 use Rattle.items.specs.Sets.{reduce_place, shift_place}
 use Rattle.items.specs.Actions.{reduces_place, shifts_place}
+use Rattle.items.proofs.Codes.{past_signs}
 
 -- ---- one place, whose byte is x and whose word is w
 
@@ -20,22 +18,20 @@ module _ (x w t : ℕ) where
   abbrev pub Acts : Bool
   Acts = (eqb x 64 && has_bit t w) || (ltb t 24 && (eqb x t && not (eqb w 0)))
 
-  -- past the signs nothing is shifted
-  no_sign : 24 ≤ x → (ltb t 24 && (eqb x t && not (eqb w 0))) ≡ false
-  no_sign h =
-      ⊎_elim (λ l. let n : eqb x t ≡ false = ne_eqb x t (λ e. omega arith) in rw (lt-ltb t 24 l, n) refl) (λ l. rw (le-ltb t 24 l) refl)
-      (cases_lt t 24)
-
   or_none : (b : Bool) → b ≡ (b || false)
   or_none true = refl
   or_none false = refl
 
   pub acts_complete : x ≡ 64 → has_bit t w ≡ Acts
-  acts_complete e = or_none (has_bit t w) ∙ sym (rw (no_sign (omega arith), eq-eqb x 64 e) refl)
+  acts_complete e = or_none (has_bit t w) ∙ sym (rw (past_signs x t (not (eqb w 0)) (omega arith), eq-eqb x 64 e) refl)
 
-  pub acts_none : (x ≡ 64 → ⊥) → (w ≡ 0) ⊎ (24 ≤ x) → has_bit t 0 ≡ Acts
-  acts_none n (inl e) = has_zero t ∙ sym (rw (ne_eqb x 64 n, eq-eqb w 0 e, and_right (eqb x t) false refl, and_right (ltb t 24) false refl) refl)
-  acts_none n (inr h) = has_zero t ∙ sym (rw (ne_eqb x 64 n, no_sign h) refl)
+  pub acts_empty : w ≡ 0 → has_bit t 0 ≡ Acts
+  acts_empty e =
+      has_zero t
+      ∙ sym (rw (e, has_zero t, and_right (eqb x 64) false refl, and_right (eqb x t) false refl, and_right (ltb t 24) false refl) refl)
+
+  pub acts_none : (x ≡ 64 → ⊥) → 24 ≤ x → has_bit t 0 ≡ Acts
+  acts_none n h = has_zero t ∙ sym (rw (ne_eqb x 64 n, past_signs x t (not (eqb w 0)) h) refl)
 
   pub acts_sign : x < 24 → (w ≡ 0 → ⊥) → has_bit t (bit_of x) ≡ Acts
   acts_sign h n =
@@ -47,10 +43,9 @@ module _ (x w t : ℕ) where
       (λ d. rw (few, other, ne_eqb t x d, ne_eqb x t (λ e. d (sym e)), and_right (ltb t 24) false refl) refl)
       (cases_eq t x)
 
--- and of a place that the table shows
-module _ {table : Table} {g : Grammar} (shows : Shows table g) (s : List ℕ) where
-  pub acts_shown : (p x w t : ℕ) → p < places g → x ≡ symbol_in table p → w ≡ slice_index s p → Acts x w t ≡ (reduces_place g s t p || shifts_place g s t p)
-  acts_shown p x w t h e d = ap₂ (λ y v. Acts y v t) (e ∙ symbol_shown shows p h) d
+-- and of a place
+pub acts_shown : (g : Grammar) (s : List ℕ) (p w t : ℕ) → w ≡ slice_index s p → Acts (next_code (rest g p)) w t ≡ (reduces_place g s t p || shifts_place g s t p)
+acts_shown g s p w t d = ap (λ v. Acts (next_code (rest g p)) v t) d
 
 -- ---- from place to place
 

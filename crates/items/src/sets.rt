@@ -16,7 +16,8 @@ ghost use Rattle.items.specs.Actions.{reduces_place, shifts_place, first_rule_le
 
 use grammar::analysis::Analysis;
 use grammar::prepared::Prepared;
-use grammar::table::{COMPLETE, FIRST_NAME, Table};
+use grammar::symbol::Symbol;
+use grammar::table::Table;
 use words::bits::{bit, test};
 use words::rounds::{each_in, until_still};
 use words::rows::{at, put};
@@ -44,7 +45,7 @@ impl Default for ItemSet {
 pub fn is_next(table: &Table, place: usize, rule: usize) -> bool
     ensures { (g : Grammar) → Shows table.now g → place < places g → rule < length g → result ≡ begins_with (rule_of g rule).left (rest g place) }
 {
-    u64::from(table.symbol_at(place)) == u64::from(FIRST_NAME) + u64::from(table.left_of(rule))
+    table.next_at(place) == Some(Symbol::Name(table.left_of(rule)))
 }
 
 /// What a rule begun at a place has ahead, where the place has `here`.
@@ -74,7 +75,7 @@ fn begin(set: &mut [u64], table: &Table, place: usize, rule: usize, ahead: u64) 
 fn begins_any(table: &Table, place: usize, ahead: u64) -> bool
     ensures { result ≡ (not (ahead == 0) && (nat_le 32 (symbol_in table.now place) && nat_lt (symbol_in table.now place) 64)) }
 {
-    ahead != 0 && (FIRST_NAME..COMPLETE).contains(&table.symbol_at(place))
+    ahead != 0 && matches!(table.next_at(place), Some(Symbol::Name(_)))
 }
 
 /// Begins every rule of the name that is next at the place.
@@ -183,14 +184,14 @@ pub enum Action {
 fn reduces(set: &[u64], table: &Table, ahead: u8, place: usize) -> bool
     ensures { ComputedPlace table.now (λ g. reduces_place g set.now ahead) place result }
 {
-    table.symbol_at(place) == COMPLETE && test(at(set, place), u64::from(ahead))
+    table.next_at(place).is_none() && test(at(set, place), u64::from(ahead))
 }
 
 /// Whether a place has the sign next, and something ahead.
 fn shifts(set: &[u64], table: &Table, ahead: u8, place: usize) -> bool
     ensures { ComputedPlace table.now (λ g. shifts_place g set.now ahead) place result }
 {
-    ahead < END && (table.symbol_at(place) == ahead && at(set, place) != 0)
+    table.next_at(place) == Some(Symbol::Sign(ahead)) && at(set, place) != 0
 }
 
 /// The rule of the first complete place that has the sign ahead.
@@ -224,14 +225,14 @@ fn expected_at(set: &[u64], table: &Table, place: usize) -> u64
     ensures { (g : Grammar) → Shows table.now g → place < places g → (t : ℕ) → has_bit t result ≡ (reduces_place g set.now t place || shifts_place g set.now t place) }
 {
     let here = at(set, place);
-    let symbol = table.symbol_at(place);
-    if symbol == COMPLETE {
-        return here;
-    }
-    if here == 0 || symbol >= END {
+    if here == 0 {
         return 0;
     }
-    bit(u64::from(symbol))
+    match table.next_at(place) {
+        None => here,
+        Some(Symbol::Sign(sign)) => bit(u64::from(sign)),
+        Some(Symbol::Name(_)) => 0,
+    }
 }
 
 /// The signs before which there is an action, a bit each.

@@ -1,7 +1,10 @@
-use Rattle.std.proofs.Common.{◌∙◌}
-use Rattle.items.proofs.Codes.{next_shown}
+use Rattle.std.proofs.Common.{ap, ◌∙◌}
+use Rattle.grammar.specs.Places.{rest}
+use Rattle.grammar.specs.Rows.{begins_with}
+use Rattle.items.proofs.Codes.{begins_next}
 use Rattle.items.proofs.sets.is_next.Goals as goal
 
 pub returns : goal.returns
 returns c g s h k =
-    rw (c.from-2.ensures) (next_shown s c.args.place c.args.rule _ _ h k (c.from.ensures ∙ c.symbol_at.ensures) (c.from-3.ensures ∙ c.left_of.ensures))
+    c.eq.ensures ∙ begins_next _ _ _ (c.next_at.ensures.meaning g s h)
+    ∙ ap (λ n. begins_with n (rest g c.args.place)) (c.left_of.ensures ∙ s.holds.lefts c.args.rule k)
