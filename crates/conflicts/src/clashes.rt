@@ -13,8 +13,9 @@ ghost use Rattle.conflicts.specs.PairSteps.{Found, OtherIsRule, ShownAt, Steps, 
 use crate::pair::Pair;
 use grammar::analysis::Analysis;
 use grammar::prepared::Prepared;
-use grammar::table::{COMPLETE, Table};
-use items::sets::{END, is_next};
+use grammar::symbol::Symbol;
+use grammar::table::Table;
+use items::sets::is_next;
 use words::bits;
 use words::rounds::{each_in, until_still};
 use words::rows::{at, put, zeroes};
@@ -42,8 +43,8 @@ fn advance(work: &mut [u64], table: &Table, pair: Pair) -> bool
     ensures value { ShownAt table.now pair.first pair.second (λ g. work.new ≡ advance_pair g pair.first pair.second work.old) }
     ensures grew { Grew size work.old work.new result }
 {
-    let symbol = table.symbol_at(pair.first);
-    if symbol >= COMPLETE || symbol != table.symbol_at(pair.second) {
+    let symbol = table.next_at(pair.first);
+    if symbol.is_none() || symbol != table.next_at(pair.second) {
         return false;
     }
     let word = at(work, pair.index());
@@ -189,18 +190,16 @@ fn saturate(work: &mut [u64], grammar: &Prepared)
 fn clash_mask(work: &[u64], table: &Table, pair: Pair) -> u64
     ensures { ShownAt table.now pair.first pair.second (λ g. result ≡ clash_mask_of g work.now pair.first pair.second) }
 {
-    if table.symbol_at(pair.first) != COMPLETE {
+    if table.next_at(pair.first).is_some() {
         return 0;
     }
     let word = at(work, pair.index());
-    let next = table.symbol_at(pair.second);
-    if next < END {
-        return bits::low(word, SIGNS) & bits::bit(u64::from(next));
+    match table.next_at(pair.second) {
+        Some(Symbol::Sign(sign)) => bits::low(word, SIGNS) & bits::bit(u64::from(sign)),
+        Some(Symbol::Name(_)) => 0,
+        None if pair.first == pair.second => 0,
+        None => word >> SIGNS,
     }
-    if next == COMPLETE && pair.first != pair.second {
-        return word >> SIGNS;
-    }
-    0
 }
 
 /// The clash at a pair, with the lowest sign.
@@ -212,7 +211,8 @@ fn clash_at(work: &[u64], table: &Table, pair: Pair) -> Option<ClashFound>
     if mask == 0 {
         return None;
     }
-    let other = (table.symbol_at(pair.second) == COMPLETE).then_some(table.owner_of(pair.second));
+    let complete = table.next_at(pair.second).is_none();
+    let other = complete.then_some(table.owner_of(pair.second));
     Some(ClashFound {
         due: table.owner_of(pair.first),
         other,
