@@ -7,10 +7,10 @@ use Rattle.grammar.specs.Grammar.{pick, none_of}
 use Rattle.reader.specs.declared.refusal.Refusal.TheVariants.{NoCommand}
 use Rattle.reader.specs.Entry.{last_place, place_told, PlaceSays}
 
-abbrev pub NothingFrom : List ℕ → ℕ → Type 0
+abbrev NothingFrom : List ℕ → ℕ → Type 0
 NothingFrom xs i = last_place i (drop i xs) ≡ []
 
-pub from_end : (xs : List ℕ) (i : ℕ) → length xs ≤ i → NothingFrom xs i
+from_end : (xs : List ℕ) (i : ℕ) → length xs ≤ i → NothingFrom xs i
 unfolding last_place
 from_end xs i h = ap (last_place i) (drop_all i xs h)
 
@@ -20,7 +20,7 @@ place_at xs j h n =
     let e : last_place (suc j) (drop (j + 1) xs) ≡ [] = rw (← add-one j) n in
     rw (drop_more xs j 0 h, e)
 
-pub from_more : (xs : List ℕ) (j : ℕ) → j < length xs → leb 32 (get_or xs j 0) ≡ false → NothingFrom xs (j + 1) → NothingFrom xs j
+from_more : (xs : List ℕ) (j : ℕ) → j < length xs → leb 32 (get_or xs j 0) ≡ false → NothingFrom xs (j + 1) → NothingFrom xs j
 from_more xs j h t n = place_at xs j h n ∙ ap (λ b. pick b (j ∷ []) []) t
 
 nil_cons : (x : ℕ) (xs : List ℕ) → ◌≡◌ {A = List ℕ} [] (x ∷ xs) → ⊥
@@ -35,7 +35,7 @@ place_front (suc i) j (x ∷ xs) p ps e =
     let t = place_front i (suc j) xs p ps (rw k at e) in
     rw t
 
-pub place_found : (xs : List ℕ) (j : ℕ) → j < length xs → leb 32 (get_or xs j 0) ≡ true → NothingFrom xs (j + 1) → last_place 0 xs ≡ j ∷ []
+place_found : (xs : List ℕ) (j : ℕ) → j < length xs → leb 32 (get_or xs j 0) ≡ true → NothingFrom xs (j + 1) → last_place 0 xs ≡ j ∷ []
 place_found xs j h t n =
     let k : 0 + j ≡ j = omega arith in
     place_front j 0 xs j [] (rw k (place_at xs j h n ∙ ap (λ b. pick b (j ∷ []) []) t))
@@ -50,7 +50,7 @@ nothing_from xs zero i e h = from_end xs i (omega arith)
 nothing_from xs (suc n) i e h =
     from_more xs i (omega arith) (lt-leb 32 _ (h i (omega arith) (omega arith))) (nothing_from xs n (i + 1) (omega arith) (λ k l b. h k l (omega arith)))
 
-pub last_found : (xs : List ℕ) (r : Option ℕ) → FoundLast xs r → r ≡ place_told (last_place 0 xs)
+last_found : (xs : List ℕ) (r : Option ℕ) → FoundLast xs r → r ≡ place_told (last_place 0 xs)
 unfolding place_told
 last_found xs None h = rw (nothing_from xs (length xs) 0 (omega arith) (λ k l b. h k l))
 last_found xs (Some i) h =

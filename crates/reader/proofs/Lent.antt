@@ -32,11 +32,11 @@ module _ (a n b e : ℕ) (m : List ℕ) (start : b ≡ a) (stop : e ≡ a + n) w
     abbrev with_lent : List ℕ
     with_lent = put_mid b (e - b) m ys
 
-    pub lent_as : (zs : List ℕ) → ys ≡ zs → with_lent ≡ replaced a n zs m
+    lent_as : (zs : List ℕ) → ys ≡ zs → with_lent ≡ replaced a n zs m
     lent_as zs q = put_replaced b n e m ys zs (omega arith) q ∙ ap (λ (k : ℕ). replaced k n zs m) start
 
     module _ (fits : a + n ≤ length m) (long : length ys ≡ n) where
-      pub lent_back : region a n with_lent ≡ ys
+      lent_back : region a n with_lent ≡ ys
       lent_back = ap (region a n) (lent_as ys refl) ∙ region_same a n m ys fits long
 
       pub lent_kept : ((i : ℕ) → get_or with_lent i 0 < 2 ^ 64) → with_lent ≡ replaced a n (packed (unpacked (region a n with_lent))) m

@@ -1,5 +1,5 @@
 -- A text that is read, then told rule by rule, as each step is told to the world outside.
-use Rattle.std.proofs.Common.{replicate, ◌≡◌, ℕ, ◌+◌, ◌-◌, ◌*◌, ◌^◌, ◌≤◌, min, Bool, true, false, eqb, leb, List, [], ◌∷◌, length, get_or, take, drop, set, Some, None, Ok, Err, sym, refl, ap, ◌∙◌, subst, ap₂, arith}
+use Rattle.std.proofs.Common.{replicate, ◌≡◌, ℕ, ◌+◌, ◌-◌, ◌*◌, ◌^◌, ◌≤◌, min, false, eqb, leb, List, [], ◌∷◌, length, get_or, take, drop, set, Some, None, Ok, Err, sym, refl, ap, ◌∙◌, subst, ap₂, arith}
 use lib.ListN.{length-replicate}
 use Rattle.std.proofs.lemmas.Bool.{eq-eqb, ne_eqb, and_parts, leb-true}
 use Rattle.words.specs.Packed.{unpacked, packed, stacked}
@@ -15,8 +15,6 @@ use Rattle.reader.specs.declared.Told.TheVariants.{Shows, Done, No}
 use Rattle.reader.specs.declared.memory.Phase.TheVariants.{Idle, Telling, Told as WasTold, Refused}
 use Rattle.reader.specs.declared.refusal.Refusal.{Refusal}
 use Rattle.reader.specs.declared.refusal.Refusal.TheVariants.{NoCommand, NoGrammar, NoText}
-use Rattle.reader.specs.House.{read_text, a_text}
-use Rattle.reader.specs.Decode.{decode, spells}
 use Rattle.reader.specs.Memory.{Layout, moves_of, phase_in, with_phase, cleared, with_text, text_in, low_byte, height_in, taken_in, stack_in, config_in, loaded}
 use Rattle.reader.specs.Machine.{on_ended, tells_with, tells, on_ending, reads_with, reads, refuses, goes_on}
 use Rattle.reader.specs.Phases.{PhaseOf}
@@ -147,15 +145,3 @@ module _ (l : Layout) (m out : List ℕ) where
   pub on_idle : PhaseOf (phase_in m) Idle → StepTold (goes_on l m) (No NoCommand) out m out
   unfolding goes_on ActTold
   on_idle ((p, q), e) = rw (ne_eqb (phase_in m) 1 p, ne_eqb (phase_in m) 2 q, e) (refl, ((NoCommand, refl, refl), refl))
-
--- what is decoded as a text is one
-pub decoded_text : (t ts : List ℕ) → decode t ≡ read_text ts ∷ [] → t ≡ 2 ∷ ts → a_text ts ≡ true
-unfolding decode spells
-decoded_text t ts d e = go (a_text ts) refl (sym (ap decode e) ∙ d)
-  where
-    go : (b : Bool) → a_text ts ≡ b → decode (2 ∷ ts) ≡ read_text ts ∷ [] → a_text ts ≡ true
-    go true q h = q
-    go false q h = let z : decode (2 ∷ ts) ≡ [] = rw q refl in never (ap length (sym z ∙ h))
-      where
-        never : ◌≡◌ {A = ℕ} 0 1 → a_text ts ≡ true
-        never n = absurd (omega arith)

@@ -1,5 +1,5 @@
-use Rattle.std.proofs.Common.{◌≡◌, ℕ, sym, subst, arith}
-use Rattle.reader.proofs.NextTold.{SoFar, so_far_none, so_far_has, so_far_not}
+use Rattle.std.proofs.Common.{sym, arith}
+use Rattle.reader.proofs.NextTold.{so_far_none, so_far_has, so_far_not}
 use Rattle.reader.proofs.expecting.show_signs.Goals.{then-test, else-test}
 use Rattle.reader.proofs.expecting.show_signs.Goals as goal
 
@@ -15,10 +15,3 @@ sign-preserved c =
       | then-test w ↦ rw (w.many-is, w.out-is) (so_far_has mask c.args.out.now i c.sign.many c.sign.out so (omega (arith, c.requires)) (sym w.if-test.ensures))
       | else-test w ↦ rw (w.many-is, w.out-is) (so_far_not mask c.args.out.now i c.sign.many c.sign.out so (sym w.if-test.ensures))
     ]
-
-pub returns : goal.returns
-returns c =
-    let e : c.sign.sign ≡ 25 = omega arith in
-    let so : SoFar c.args.mask c.args.out.now 25 c.sign.many c.sign.out =
-    subst (λ (i : ℕ). SoFar c.args.mask c.args.out.now i c.sign.many c.sign.out) e c.sign.invariant in
-    record { row = so.row; many = so.count }

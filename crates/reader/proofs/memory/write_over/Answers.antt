@@ -6,6 +6,3 @@ pub loop-i-preserved : goal.loop-i-preserved
 loop-i-preserved c =
     ap₂ (λ (l : List ℕ) (x : ℕ). set l c.loop-i.i x) c.loop-i.invariant c.from.ensures
     ∙ over_more c.args.bytes.now c.args.words.now c.loop-i.i (omega arith) c.requires
-
-pub returns : goal.returns
-returns c = c.loop-i.invariant ∙ over_all c.args.bytes.now c.args.words.now c.loop-i.i (omega arith) (omega arith)

@@ -10,13 +10,9 @@ use Rattle.reader.proofs.run.run.Goals as goal
 pub turn-init : goal.turn-init
 turn-init c = (refl, sofar_none _ _ _ c.if-not-sizes_fit.ensures)
 
-pub returns-then-not-sizes_fit : goal.returns-then-not-sizes_fit
-returns-then-not-sizes_fit c =
-    record {
-      ran = refl;
-      allowed = refl;
-      room = λ short old h. absurd (size_fits _ _ (and_from _ _ (le-leb _ _ short) (bytes_fit _ (λ i. (c.type_inv.text i).fits))) old h (le-leb _ _ short) c.if-not-sizes_fit.ensures);
-    }
+pub returns-then-not-sizes_fit-clause-room : goal.returns-then-not-sizes_fit-clause-room
+returns-then-not-sizes_fit-clause-room c =
+    λ short old h. absurd (size_fits _ _ (and_from _ _ (le-leb _ _ short) (bytes_fit _ (λ i. (c.type_inv.text i).fits))) old h (le-leb _ _ short) c.if-not-sizes_fit.ensures)
 
 pub returns-in-Done : goal.returns-in-Done
 returns-in-Done c =
@@ -25,12 +21,12 @@ returns-in-Done c =
     let r = done_so _ _ _ _ _ _ s _ _ _ c.turn.invariant.0 c.in-Done.ensures.says in
     record { ran = r; allowed = λ old h. may_so _ _ f old h _ _ _ _ r (λ z. omega arith); room = refl }
 
-pub returns-then-not-is_answer : goal.returns-then-not-is_answer
-returns-then-not-is_answer c =
+pub returns-then-not-is_answer-clause-room : goal.returns-then-not-is_answer-clause-room
+returns-then-not-is_answer-clause-room c =
     let s = c.turn.invariant.1 in
     let f = and_from _ _ s.short (bytes_fit _ (λ i. (c.type_inv.text i).fits)) in
     let r = refused_so _ _ _ _ _ _ s _ _ _ c.turn.invariant.0 _ false (sym c.if-not-is_answer.ensures) c.in-No.ensures.says in
-    record { ran = refl; allowed = refl; room = λ _ old h. absurd (no_fault _ _ f old h _ _ _ r) }
+    λ _ old h. absurd (no_fault _ _ f old h _ _ _ r)
 
 pub returns-in-No : goal.returns-in-No
 returns-in-No c =
@@ -41,16 +37,12 @@ returns-in-No c =
     let r = refused_so _ _ _ _ _ _ s _ _ _ c.turn.invariant.0 c.in-No.refusal true b c.in-No.ensures.says in
     record { ran = r; allowed = λ old h. may_so _ _ f old h _ _ (refusal_code c.in-No.refusal) _ r (λ z. omega arith); room = refl }
 
-pub returns-then-many-shown : goal.returns-then-many-shown
-returns-then-many-shown c =
+pub returns-then-many-shown-clause-room : goal.returns-then-many-shown-clause-room
+returns-then-many-shown-clause-room c =
     let s = c.turn.invariant.1 in
     let f = and_from _ _ s.short (bytes_fit _ (λ i. (c.type_inv.text i).fits)) in
-    record {
-      ran = refl;
-      allowed = refl;
-      room = λ _ old h. subst (λ (k : ℕ). NoRoom old c.args.text.now k) c.turn.auto.shown
-          (row_too_long _ _ _ _ _ _ s _ _ _ c.turn.invariant.0 _ c.in-Shows.ensures.says c.step.auto.out (omega arith) f old h);
-    }
+    λ _ old h. subst (λ (k : ℕ). NoRoom old c.args.text.now k) c.turn.auto.shown
+        (row_too_long _ _ _ _ _ _ s _ _ _ c.turn.invariant.0 _ c.in-Shows.ensures.says c.step.auto.out (omega arith) f old h)
 
 pub slice_bounds-put_row-end : goal.slice_bounds-put_row-end
 slice_bounds-put_row-end c =
