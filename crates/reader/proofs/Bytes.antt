@@ -1,23 +1,25 @@
--- The low bytes of words, one after the other; so many of them; and the grammar that they spell.
-use Rattle.std.proofs.Common.{◌≡◌, ℕ, zero, suc, ◌+◌, ◌<◌, ◌≤◌, min, Bool, true, false, List, [], ◌∷◌, ◌++◌, length, get_or, take, drop, set, Some, None, Option, sym, refl, ap, ◌∙◌, subst, ap₂, append-nil, arith, drop-set-lt}
+-- The low bytes of words; so many of them; and the grammar that they spell.
+use Rattle.std.proofs.Common.{◌≡◌, ℕ, zero, suc, ◌+◌, ◌<◌, min, Bool, true, false, List, [], ◌∷◌, length, get_or, take, set, Some, None, Option, sym, refl, ap, ◌∙◌, subst, arith, drop-set-lt}
 use borrow.Rule.Slice.PartMut.{put_mid}
 use lib.Bits.{bit_and}
 use Rattle.std.proofs.lemmas.Nat.{and_mask}
-use Rattle.std.proofs.lemmas.List.{drop_all}
 use Rattle.words.specs.Regions.{region}
 use Rattle.words.proofs.Regions.{put_replaced}
 use Rattle.grammar.specs.declared.table.Table.{Table}
 use Rattle.grammar.specs.Grammar.{pick, each}
 use Rattle.grammar.specs.Spelling.{grammar_ok, grammar_of, Spells}
 use Rattle.grammar.specs.Table.{Shows, Answers}
-use Rattle.grammar.proofs.Spelled.{grammar_back, length_each}
+use Rattle.grammar.proofs.Spelled.{grammar_back}
 use Rattle.reader.specs.Memory.{low_byte, over, with_text, spelling_in, loaded}
 use Rattle.grammar.specs.declared.prepared.Prepared.{Prepared}
 use Rattle.grammar.specs.Prepared.{DescribesShown}
+use denote.Param.Members.{Mut}
+use Rattle.std.specs.Fn.{Called}
+use Rattle.std.proofs.lemmas.List.{ext_get_or}
+use Rattle.std.specs.Array.{IsFromFnResult, IsFromFnResultFrom}
 use Rattle.std.specs.Prelude.{MatchOption}
 use Rattle.reader.specs.Tables.{LoadedGrammar}
 use Rattle.reader.proofs.Loading.{not_spelled}
-use Rattle.reader.proofs.Overwriting.{over_more, over_all}
 
 pub get_each : (f : ℕ → ℕ) (xs : List ℕ) (i : ℕ) → i < length xs → get_or (each f xs) i 0 ≡ f (get_or xs i 0)
 unfolding each
@@ -55,20 +57,27 @@ text_stored m ts ys k h =
     put_mid 262 4096 (set (set (set (set m 258 j) 259 0) 260 0) 261 (length ts)) ys ≡ with_text ts m)
     (sym h) (text_kept m ts ys)
 
--- LOW BYTES, one after the other
-pub bytes_more : (ws bs now : List ℕ) (i : ℕ) → i < length ws → length ws ≡ length bs → now ≡ take i (each low_byte ws) ++ drop i bs →
-    set now i (bit_and (get_or ws i 0) 255) ≡ take (i + 1) (each low_byte ws) ++ drop (i + 1) bs
-bytes_more ws bs now i h k e =
-    let n = length_each low_byte ws in
-    let b : bit_and (get_or ws i 0) 255 ≡ get_or (each low_byte ws) i 0 = and_mask (get_or ws i 0) 8 ∙ sym (get_each low_byte ws i h) in
-    ap₂ (λ (l : List ℕ) (x : ℕ). set l i x) e b ∙ over_more (each low_byte ws) bs i (omega arith) (omega arith)
+-- LOW BYTES: an array that is made by calls of a closure that stays as it is
+module _ {F : Type 0} (g : Mut F (ℕ × Unit {0}) ℕ) (f : F) (val : ℕ → ℕ) (gives : (i y : ℕ) (q : F) → Called g f (i, tt) y q → (q ≡ f) × (y ≡ val i)) where
+  made_at : (h : F) (ys : List ℕ) (n i j : ℕ) → h ≡ f → IsFromFnResultFrom g h ys i n → j < n → get_or ys (i + j) 0 ≡ val (i + j)
+  made_at h ys zero i j e m l = absurd (omega arith)
+  made_at h ys (suc n) i zero e (q, y, at, call, rest) l =
+      let z : i + 0 ≡ i = omega arith in
+      let r = gives i y q (subst (λ (p : F). Called g p (i, tt) y q) e call) in
+      rw z (at.1 0 ∙ r.1)
+  made_at h ys (suc n) i (suc j) e (q, y, at, call, rest) l =
+      let z : (i + 1) + j ≡ i + suc j = omega arith in
+      let r = gives i y q (subst (λ (p : F). Called g p (i, tt) y q) e call) in
+      subst (λ (k : ℕ). get_or ys k 0 ≡ val k) z (made_at q ys n (i + 1) j r.0 rest (omega arith))
 
-pub bytes_all : (ws bs now : List ℕ) (i : ℕ) → length ws ≤ i → i ≤ length ws → length ws ≡ length bs → now ≡ take i (each low_byte ws) ++ drop i bs →
-    now ≡ each low_byte ws
-bytes_all ws bs now i h j k e =
-    let n = length_each low_byte ws in
-    e ∙ over_all (each low_byte ws) bs i (omega arith) (omega arith)
-    ∙ ap (λ (l : List ℕ). each low_byte ws ++ l) (drop_all (length (each low_byte ws)) bs (omega arith)) ∙ append-nil (each low_byte ws)
+  pub made_all : (ys zs : List ℕ) (n : ℕ) → IsFromFnResult g f ys n → length zs ≡ n → ((i : ℕ) → i < n → get_or zs i 0 ≡ val i) → ys ≡ zs
+  made_all ys zs n m long same =
+      ext_get_or 0 ys zs (m.long ∙ sym long)
+      (λ i h. let z : 0 + i ≡ i = omega arith in
+      subst (λ (k : ℕ). get_or ys k 0 ≡ val k) z (made_at f ys n 0 i refl m.each (omega (arith, m.long))) ∙ sym (same i (omega (arith, m.long))))
+
+pub byte_each : (ws : List ℕ) (i : ℕ) → i < length ws → get_or (each low_byte ws) i 0 ≡ bit_and (get_or ws i 0) 255
+byte_each ws i h = get_each low_byte ws i h ∙ sym (and_mask (get_or ws i 0) 8)
 
 -- so many of them, or all that there are
 pub bytes_taken : (k n : ℕ) (ws bs : List ℕ) → length ws ≡ n → bs ≡ each low_byte ws → take (min k n) bs ≡ each low_byte (take k ws)

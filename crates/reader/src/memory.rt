@@ -8,6 +8,7 @@ ghost use Rattle.reader.specs.Tables.{LoadedGrammar};
 use crate::refusal::Refusal;
 use grammar::prepared::Prepared;
 use grammar::table;
+use std::array;
 
 /// The word that says what the machine is at.
 pub const PHASE: usize = 258;
@@ -74,14 +75,11 @@ fn write_over(words: &mut [u64], bytes: &[u8])
 }
 
 /// The low bytes of the words.
-pub fn low_bytes(words: &[u64], bytes: &mut [u8])
-    requires { length words.now ≡ length bytes.old }
-    ensures { bytes.new ≡ each low_byte words.now }
+pub fn low_bytes<const N: usize>(words: &[u64]) -> [u8; N]
+    requires { length words.now ≡ N }
+    ensures { result ≡ each low_byte words.now }
 {
-    // by index, as in `write_over`
-    for (i, word) in words.iter().enumerate() {
-        bytes[i] = (*word & 255) as u8;
-    }
+    array::from_fn(|i| (words[i] & 255) as u8)
 }
 
 /// The grammar of this spelling is the one from then on.
@@ -98,8 +96,7 @@ pub fn loaded(memory: &[u64]) -> Option<Prepared>
     requires { 258 < length memory.now }
     ensures { LoadedGrammar memory.now result }
 {
-    let mut bytes = [0; 257];
-    low_bytes(&memory[1..PHASE], &mut bytes);
+    let bytes: [u8; 257] = low_bytes(&memory[1..PHASE]);
     let many = memory[0].min(257) as usize;
     table::read(&bytes[..many]).map(Prepared::new)
 }

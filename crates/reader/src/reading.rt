@@ -46,8 +46,7 @@ fn tell(memory: &mut [u64], regions: Regions, grammar: &Prepared, out: &mut [u64
     requires room { 32 ≤ length out.old }
     ensures { (g : Grammar) → loaded memory.old ≡ g ∷ [] → Describes grammar.now g → StepTold (tells (layout_of regions) memory.old) result out.old memory.new out.new }
 {
-    let mut text = [0; 4096];
-    low_bytes(&memory[TEXT..TEXT_END], &mut text);
+    let text: [u8; 4096] = low_bytes(&memory[TEXT..TEXT_END]);
     let many = memory[COUNT].min(4096) as usize;
     let mut state = resume(
         &memory[regions.stack_start()..regions.stack_end()],

@@ -1,9 +1,11 @@
-use Rattle.std.proofs.Common.{arith}
-use Rattle.reader.proofs.Bytes.{bytes_more, bytes_all}
+use Rattle.std.proofs.Common.{get_or, ◌∙◌, arith, rules}
+use lib.Bits.{bit_and}
+use Rattle.grammar.proofs.Spelled.{length_each}
+use Rattle.reader.specs.Memory.{low_byte}
+use Rattle.reader.proofs.Bytes.{made_all, byte_each}
 use Rattle.reader.proofs.memory.low_bytes.Goals as goal
 
-pub loop-i-preserved : goal.loop-i-preserved
-loop-i-preserved c = bytes_more c.args.words.now c.args.bytes.now _ c.loop-i.i (omega arith) c.requires c.loop-i.invariant
-
 pub returns : goal.returns
-returns c = bytes_all c.args.words.now c.args.bytes.now _ c.loop-i.i (omega arith) (omega arith) c.requires c.loop-i.invariant
+returns g c =
+    made_all _ _ (λ i. bit_and (get_or c.args.words.now i 0) 255) (λ i y q k. search rules) _ _ g.row.N c.from_fn.ensures.items
+    (length_each low_byte c.args.words.now ∙ c.requires) (λ i h. byte_each c.args.words.now i (omega (arith, c.requires)))

@@ -1,5 +1,5 @@
 use Rattle.std.proofs.Common.{ℕ, List, set, ◌∙◌, ap₂, arith}
-use Rattle.reader.proofs.Overwriting.{over_more, over_all}
+use Rattle.reader.proofs.Overwriting.{over_more}
 use Rattle.reader.proofs.memory.write_over.Goals as goal
 
 pub loop-i-preserved : goal.loop-i-preserved

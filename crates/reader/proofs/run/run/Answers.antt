@@ -42,7 +42,7 @@ returns-then-many-shown-clause-room c =
     let s = c.turn.invariant.1 in
     let f = and_from _ _ s.short (bytes_fit _ (λ i. (c.type_inv.text i).fits)) in
     λ _ old h. subst (λ (k : ℕ). NoRoom old c.args.text.now k) c.turn.auto.shown
-        (row_too_long _ _ _ _ _ _ s _ _ _ c.turn.invariant.0 _ c.in-Shows.ensures.says c.step.auto.out (omega arith) f old h)
+    (row_too_long _ _ _ _ _ _ s _ _ _ c.turn.invariant.0 _ c.in-Shows.ensures.says c.step.auto.out (omega arith) f old h)
 
 pub slice_bounds-put_row-end : goal.slice_bounds-put_row-end
 slice_bounds-put_row-end c =
