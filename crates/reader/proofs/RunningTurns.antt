@@ -1,5 +1,5 @@
 -- The turns of a command that is run to its end: each is the machine's own step, and the rows so far stand in the lent row.
-use Rattle.std.proofs.Common.{◌≡◌, ℕ, suc, ◌+◌, ◌-◌, ◌<◌, ◌≤◌, Bool, true, ◌&&◌, eqb, leb, List, [], ◌∷◌, ◌++◌, length, take, drop, set, sym, refl, ap, ◌∙◌, subst, add-one, arith, length-append, length-set, length-take-le, take-suc-set, take_at}
+use Rattle.std.proofs.Common.{Some, ◌≡◌, ℕ, suc, ◌+◌, ◌-◌, ◌<◌, ◌≤◌, Bool, true, ◌&&◌, eqb, leb, List, [], ◌∷◌, ◌++◌, length, take, drop, set, sym, refl, ap, ◌∙◌, subst, add-one, arith, length-append, length-set, length-take-le, take-suc-set, take_at}
 use lib.Seq.{append_snoc}
 use borrow.Rule.Slice.PartMut.{put_mid}
 use Rattle.std.proofs.lemmas.Bool.{and_from, and_parts, le-leb, eq-eqb, eqb-true}
@@ -7,6 +7,7 @@ use Rattle.std.proofs.lemmas.Slice.{take-put_mid}
 use Rattle.grammar.specs.Grammar.{pick}
 use Rattle.grammar.specs.Spelling.{flat}
 use Rattle.reader.specs.declared.refusal.Refusal.{Refusal}
+use Rattle.reader.specs.declared.refusal.Refusal.TheVariants.{Sizes, NoCommand, Unknown, NoGrammar, NoText, Clash, Useless}
 use Rattle.reader.specs.declared.Told.{Told}
 use Rattle.reader.specs.declared.Told.TheVariants.{Shows, Done, No}
 use Rattle.reader.specs.House.{Loaded}
@@ -15,7 +16,7 @@ use Rattle.reader.specs.Machine.{row_fits, sizes_fit}
 use Rattle.reader.specs.Entry.{own, own_layout, event_of, ActTold, StepTold, StepSays, step_fits}
 use Rattle.reader.specs.Holds.{Holds}
 use Rattle.reader.specs.Refusals.{refusal_code}
-use Rattle.reader.specs.Running.{row_told, room_for, refusal_number, RanSo, NoRoom}
+use Rattle.reader.specs.Running.{row_told, room_for, refusal_number, end_of, RanSo, NoRoom}
 use Rattle.reader.proofs.Telling.{fits_is}
 use Rattle.reader.proofs.Running.{rows_push, room_push, no_room}
 
@@ -185,3 +186,13 @@ module _ (m₀ t m shown : List ℕ) (kind used : ℕ) (s : Sofar m₀ t m shown
         let w = shown_row in
         no_room m₀ t f old h (s.steps + 1) m₁ (s.rows ++ w.row ∷ []) (length shown) goes_on_with
         (omega (arith, room_push s.rows w.row, used_so, w.long))
+
+-- a command that is refused is not at it still
+pub not_at_it : (x : Refusal) → end_of (Some x) ≡ 1000 → ⊥
+not_at_it Sizes z = omega arith
+not_at_it NoCommand z = omega arith
+not_at_it Unknown z = omega arith
+not_at_it NoGrammar z = omega arith
+not_at_it NoText z = omega arith
+not_at_it Clash z = omega arith
+not_at_it Useless z = omega arith

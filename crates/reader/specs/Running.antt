@@ -1,5 +1,6 @@
 -- What is promised of one command that is run to its end: how it went, and that it is answered as it may be. Assumes nothing: these are definitions.
 use Rattle.std.specs.Prelude.{◌≡◌, ℕ, zero, ◌<◌, ◌≤◌, Bool, ◌&&◌, List, [], ◌∷◌, ◌++◌, length, take, Some, None, Option, ◌≢◌, nat_le, nat_lt}
+use Rattle.grammar.specs.Grammar.{pick}
 use Rattle.grammar.specs.Spelling.{flat}
 use Rattle.reader.specs.declared.refusal.Refusal.{Refusal}
 use Rattle.reader.specs.declared.run.Ended.{Ended}
@@ -21,13 +22,13 @@ NoRow xs = (row rest : List ℕ) → xs ≢ row_told row ++ rest
 abbrev pub room_for : List (List ℕ) → ℕ
 room_for ss = length (flat row_told ss)
 
--- the number of an end: 0 done, or that of the refusal
-abbrev pub end_of : Option Refusal → ℕ
-end_of None = 0
-end_of (Some e) = refusal_code e
-
 abbrev pub refusal_number : ℕ → Bool
 refusal_number k = nat_le 1 k && nat_lt k 1000
+
+-- the end that is told: 0 done, or the number of the refusal; one that no command is refused with would be a fault, as in a run
+abbrev pub end_of : Option Refusal → ℕ
+end_of None = 0
+end_of (Some e) = pick (refusal_number (refusal_code e)) (refusal_code e) 1001
 
 -- the machine's own run from this memory, on this row of bytes, ends so: m₁ is its memory then, and shown has the rows
 pub record RanSo (m t m₁ shown : List ℕ) (end used : ℕ) : Type 0 where

@@ -1,10 +1,9 @@
-use Rattle.std.proofs.Common.{◌≡◌, ℕ, ◌-◌, ◌<◌, ◌≤◌, true, false, ltb, leb, length, take, sym, refl, ap, ◌∙◌, subst, arith}
-use Rattle.std.proofs.lemmas.Bool.{and_from, and_parts, le-leb, ltb-true}
-use Rattle.reader.specs.Refusals.{refusal_code}
+use Rattle.std.proofs.Common.{◌≡◌, ℕ, ◌-◌, ◌≤◌, false, length, take, sym, refl, ap, ◌∙◌, subst, arith}
+use Rattle.std.proofs.lemmas.Bool.{and_from, le-leb}
 use Rattle.reader.specs.Running.{NoRoom}
 use Rattle.reader.proofs.Telling.{bytes_fit}
 use Rattle.reader.proofs.Running.{may_so, no_fault, size_fits}
-use Rattle.reader.proofs.RunningTurns.{sofar_none, sofar_more, done_so, refused_so, row_few, row_too_long}
+use Rattle.reader.proofs.RunningTurns.{sofar_none, sofar_more, done_so, refused_so, not_at_it, row_few, row_too_long}
 use Rattle.reader.proofs.run.run.Goals as goal
 
 pub turn-init : goal.turn-init
@@ -32,10 +31,8 @@ pub returns-in-No : goal.returns-in-No
 returns-in-No c =
     let s = c.turn.invariant.1 in
     let f = and_from _ _ s.short (bytes_fit _ (λ i. (c.type_inv.text i).fits)) in
-    let b = sym c.if-not-is_answer.ensures in
-    let less : refusal_code c.in-No.refusal < 1000 = ltb-true _ _ (and_parts (leb 1 (refusal_code c.in-No.refusal)) (ltb (refusal_code c.in-No.refusal) 1000) b).1 in
-    let r = refused_so _ _ _ _ _ _ s _ _ _ c.turn.invariant.0 c.in-No.refusal true b c.in-No.ensures.says in
-    record { ran = r; allowed = λ old h. may_so _ _ f old h _ _ (refusal_code c.in-No.refusal) _ r (λ z. omega arith); room = refl }
+    let r = refused_so _ _ _ _ _ _ s _ _ _ c.turn.invariant.0 c.in-No.refusal _ refl c.in-No.ensures.says in
+    record { ran = r; allowed = λ old h. may_so _ _ f old h _ _ _ _ r (not_at_it c.in-No.refusal); room = refl }
 
 pub returns-then-many-shown-clause-room : goal.returns-then-many-shown-clause-room
 returns-then-many-shown-clause-room c =
