@@ -122,11 +122,13 @@ pub fn step(memory: &mut [u64], kind: u64, text: &[u8], out: &mut [u64]) -> Told
     if kind == 1 {
         return reading::go_on(memory, regions, out);
     }
-    match decode(text) {
-        Some(Request::Load(spelling)) => load(memory, regions, spelling, out),
-        Some(Request::Read(signs)) => reading::read(memory, regions, signs, out),
-        Some(Request::Next(_)) => Told::No(Refusal::Unknown),
-        None => Told::No(Refusal::NoCommand),
+    let Some(request) = decode(text) else {
+        return Told::No(Refusal::NoCommand);
+    };
+    match request {
+        Request::Load(spelling) => load(memory, regions, spelling, out),
+        Request::Read(signs) => reading::read(memory, regions, signs, out),
+        Request::Next(_) => Told::No(Refusal::Unknown),
     }
 }
 

@@ -23,13 +23,13 @@ returns-then-kind-eq1 c =
 pub load-requires : goal.load-requires
 load-requires c =
     let z = sizes c.args.memory.now c.args.kind c.args.text.now c.args.out.now c.if-not-sizes_fit.ensures in
-    let d = rw c.in-Some-Load.field-0-is at c.in-Some-Load.ensures in
+    let d = rw c.in-Load.is at c.in-Some.ensures in
     record { grammar = d.2; long = as_long _ _ c.own-regions.ensures z.own_size; room = z.room }
 
-pub returns-in-Some-Load : goal.returns-in-Some-Load
-returns-in-Some-Load c =
+pub returns-in-Load : goal.returns-in-Load
+returns-in-Load c =
     let l = layout_of c.own-regions.result in
-    let d = rw c.in-Some-Load.field-0-is at c.in-Some-Load.ensures in
+    let d = rw c.in-Load.is at c.in-Some.ensures in
     record {
       says = told_said _ _ _ _ c.if-not-sizes_fit.ensures l c.own-regions.ensures _ _ _ c.if-kind-eq1.false (λ i. (c.type_inv.text i).fits)
           (load_told l _ _ _ _ _ _ _ d.0 c.load.ensures);
@@ -39,34 +39,34 @@ returns-in-Some-Load c =
 pub read-requires : goal.read-requires
 read-requires c =
     let z = sizes c.args.memory.now c.args.kind c.args.text.now c.args.out.now c.if-not-sizes_fit.ensures in
-    let d = rw c.in-Some-Read.field-0-is at c.in-Some-Read.ensures in
+    let d = rw c.in-Read.is at c.in-Some.ensures in
     record { text = d.2; long = as_long _ _ c.own-regions.ensures z.own_size; room = z.room }
 
-pub returns-in-Some-Read : goal.returns-in-Some-Read
-returns-in-Some-Read c =
+pub returns-in-Read : goal.returns-in-Read
+returns-in-Read c =
     let l = layout_of c.own-regions.result in
-    let d = rw c.in-Some-Read.field-0-is at c.in-Some-Read.ensures in
+    let d = rw c.in-Read.is at c.in-Some.ensures in
     record {
       says = told_said _ _ _ _ c.if-not-sizes_fit.ensures l c.own-regions.ensures _ _ _ c.if-kind-eq1.false (λ i. (c.type_inv.text i).fits)
           (read_told l _ _ _ _ _ _ _ d.0 c.read.ensures);
       whole = whole;
     }
 
-pub returns-in-Some-Next : goal.returns-in-Some-Next
-returns-in-Some-Next c =
+pub returns-in-Next : goal.returns-in-Next
+returns-in-Next c =
     let l = layout_of c.own-regions.result in
-    let d = rw c.in-Some-Next.field-0-is at c.in-Some-Next.ensures in
+    let d = rw c.in-Next.is at c.in-Some.ensures in
     record {
       says = told_said _ _ _ _ c.if-not-sizes_fit.ensures l c.own-regions.ensures _ _ _ c.if-kind-eq1.false (λ i. (c.type_inv.text i).fits)
           (what_next_refused l _ _ _ _ d.0);
       whole = whole;
     }
 
-pub returns-in-None : goal.returns-in-None
-returns-in-None c =
+pub returns-in_default : goal.returns-in_default
+returns-in_default c =
     let l = layout_of c.own-regions.result in
     record {
       says = told_said _ _ _ _ c.if-not-sizes_fit.ensures l c.own-regions.ensures _ _ _ c.if-kind-eq1.false (λ i. (c.type_inv.text i).fits)
-          (none_refused l _ _ _ c.in-None.ensures);
+          (none_refused l _ _ _ c.in_default.ensures);
       whole = whole;
     }
