@@ -12,6 +12,7 @@ const SIGNS: u8 = 24;
 const ROOM: u8 = 127;
 
 /// Whether a byte is a symbol's: a sign's, or a name's.
+// by the byte and not by `Symbol`, since here it is asked whether a byte that came in is a symbol's at all
 pub fn is_symbol(b: u8) -> bool
     ensures { result ≡ symbol_ok b }
 {

@@ -136,6 +136,7 @@ fn set_behind(words: &mut [u64], place: usize, word: u64)
 fn advance_place(next: &mut [u64], set: &[u64], table: &Table, symbol: u8, place: usize)
     ensures { ComputedPlace table.now (λ g p. advance_place_of g symbol set.now p next.old) place next.new }
 {
+    // by the byte, since the symbol is one of the stack's bytes
     if table.symbol_at(place) == symbol {
         set_behind(next, place, at(set, place));
     }
