@@ -7,10 +7,10 @@ use Rattle.grammar.specs.declared.symbol.Symbol.{Symbol}
 use Rattle.grammar.specs.declared.symbol.Symbol.TheVariants.{Sign, Name}
 use Rattle.grammar.specs.declared.table.Table.{Table}
 use Rattle.grammar.specs.contracts.symbol.SymbolPartialEq.TheImpl.{eq-value}
-use Rattle.grammar.specs.Grammar.{every, Sym, sign, name, Grammar, same_sym, sym_fits}
+use Rattle.grammar.specs.Grammar.{every, Sym, sign, name, Grammar, sym_fits}
 use Rattle.grammar.specs.Spelling.{sym_spelled}
 use Rattle.grammar.specs.Places.{places, rest, next_code}
-use Rattle.grammar.specs.Symbols.{first_of_row, next_of, told, told_next}
+use Rattle.grammar.specs.Symbols.{first_of_row, next_of, told_next}
 use Rattle.grammar.specs.Table.{Shows, symbol_in}
 use Rattle.grammar.proofs.Lists.{never}
 use Rattle.grammar.proofs.Places.{rest_fits}
@@ -67,14 +67,6 @@ module _ (β : List Sym) where
   unfolding sym_spelled sym_fits
   code_next_name n e h =
       (next_first β ∙ ap code_of_first (sym e), ltb-true n 32 (and_parts (leb 1 n) (ltb n 32) (first_fits β h (name n) e)).1)
-
--- symbols are the same if what they mean is
-pub same_symbol : (x y : Symbol) → eq-value.it x y ≡ same_sym (told x) (told y)
-unfolding same_sym
-same_symbol (Sign a) (Sign b) = refl
-same_symbol (Sign a) (Name b) = refl
-same_symbol (Name a) (Sign b) = refl
-same_symbol (Name a) (Name b) = refl
 
 -- ---- of two places, and whether one is complete
 
