@@ -93,6 +93,7 @@ impl Machine {
         let mut shown = Vec::new(heap);
         let mut out = [0u64; 32];
         let mut kind = 0;
+        // That each command ends is the reader's theorem; the bound only shows it here.
         for _ in 0..u64::MAX {
             let refused = match reader::step(&mut self.memory, kind, bytes, &mut out) {
                 Told::Shows(n) => {

@@ -54,6 +54,7 @@ impl Notation {
     // A rule with brackets round its right side, where for its names these parts stand.
     fn bracket(&self, heap: Global, rule: &Rule, parts: &[String]) -> Result<String, Fault> {
         let mut text = format!(in heap; "{}[", self.words.word(rule.left))?;
+        // A loop, and no chain that is joined: where a part is missing, all fails.
         let mut inner = parts.iter();
         let mut gap = "";
         for word in &rule.right {
