@@ -7,7 +7,7 @@ use notation::shown::row_text;
 use notation::source::Source;
 use reader::run::{first_row, run};
 use std::alloc::Global;
-use std::io;
+use std::{env, io};
 
 const HELP: &str =
     "console: reads commands as numbers, a line each, and prints what the machine answers
@@ -95,7 +95,8 @@ fn converse(rt: &HostRuntime, text: &str) -> anyhow::Result<()> {
 }
 
 fn main(rt: HostRuntime) -> anyhow::Result<()> {
-    let text = match Source::of(&rt, "console")? {
+    let word = env::args(&rt)?.nth(1);
+    let text = match Source::named(&rt, "console", word.as_deref())? {
         Source::Help => {
             rt.println(HELP)?;
             return Ok(());

@@ -3,6 +3,7 @@
 
 use notation::source::Source;
 use session::Session;
+use std::env;
 use std::io::{BufRead, BufReader};
 
 mod help;
@@ -27,7 +28,8 @@ fn converse<R: BufRead + Drop>(rt: &HostRuntime, lines: R) -> anyhow::Result<()>
 }
 
 fn main(rt: HostRuntime) -> anyhow::Result<()> {
-    match Source::of(&rt, "keyboard")? {
+    let word = env::args(&rt)?.nth(1);
+    match Source::named(&rt, "keyboard", word.as_deref())? {
         Source::Help => {
             rt.println(help::USAGE)?;
             rt.println(help::LINES)?;

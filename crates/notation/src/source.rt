@@ -3,7 +3,7 @@ ghost use Rattle.std.specs.Prelude.{◌≡◌, Ok, MatchOption, codes};
 ghost use Rattle.notation.specs.declared.source.Source.TheVariants.{Help, Input};
 
 use anyhow::anyhow;
-use std::{env, fs};
+use std::fs;
 
 #[derive(Drop)]
 pub enum Source {
@@ -16,18 +16,8 @@ pub enum Source {
 }
 
 impl Source {
-    /// What the word behind the program's own name says.
-    pub fn of(rt: &HostRuntime, program: &str) -> anyhow::Result<Source> {
-        let word = env::args(rt)?.nth(1);
-        Source::named(rt, program, word.as_deref())
-    }
-
-    // No word, `--help`, or the path of a file.
-    pub(crate) fn named(
-        rt: &HostRuntime,
-        program: &str,
-        word: Option<&str>,
-    ) -> anyhow::Result<Source>
+    /// What the word behind the program's own name says: none, `--help`, or the path of a file.
+    pub fn named(rt: &HostRuntime, program: &str, word: Option<&str>) -> anyhow::Result<Source>
         ensures { MatchOption word.entry (result ≡ Ok Input) (λ w. w.now ≡ codes "--help" → result ≡ Ok Help) }
     {
         let Some(word) = word else {

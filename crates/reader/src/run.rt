@@ -37,7 +37,9 @@ pub fn run(memory: &mut [u64], text: &[u8], shown: &mut [u64]) -> Option<Ended>
     ensures room { AnswersIfRoom memory.old text.now result (length shown.old) }
 {
     let mut out = [0u64; 32];
+    // as the entry has it: 0 says the row of bytes, 1 goes on
     let mut kind = 0;
+    // of the lent row; no Vec, since there is no heap below the programs
     let mut used = 0;
     if !sizes_fit(memory.len(), kind, text.len(), out.len()) {
         return None;
