@@ -106,6 +106,7 @@ impl<'a> Spelled<'a> {
     }
 
     // Two ways on: a rule that has come to its end, and another one, or to go on, which the machine tells as 64.
+    // The numbers are those of a row that it shows: a narrower type would ask more of callers.
     pub fn clash(
         &self,
         heap: Global,
