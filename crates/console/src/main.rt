@@ -5,6 +5,7 @@
 use anyhow::anyhow;
 use notation::shown::row_text;
 use notation::source::Source;
+use reader::WORDS;
 use reader::run::{first_row, run};
 use std::alloc::Global;
 use std::{env, io};
@@ -21,9 +22,6 @@ a line is the word load, read or next and then numbers:
   next  the signs behind which something may come
   say   any bytes at all
 a line that begins with # is a remark";
-
-// The numbers of memory that the machine has.
-const WORDS: usize = 524288;
 
 // Numbers that one command may show here, with the lengths of its rows.
 const ROOM: usize = 1048576;

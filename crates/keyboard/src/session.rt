@@ -4,12 +4,9 @@ use notation::fault::Fault;
 use notation::rules::Notation;
 use notation::said::Spelled;
 use notation::shown;
-use reader::Told;
 use reader::refusal::Refusal;
+use reader::{Told, WORDS};
 use std::alloc::{AllocError, Global};
-
-// The numbers of memory that the machine has.
-const WORDS: usize = 524288;
 
 // What is asked of the machine about a text.
 #[derive(Clone, Copy)]

@@ -32,6 +32,9 @@ pub mod run;
 // What is shown for going on, in place of a rule.
 const SHIFT: u8 = 64;
 
+// How many words the machine's memory has.
+pub const WORDS: usize = 524288;
+
 #[derive(Clone, Copy, Debug, PartialEq, Eq)]
 pub enum Told {
     // So many numbers.
@@ -65,7 +68,7 @@ pub fn last_name(symbols: &[u8]) -> Result<Option<u64>, Refusal>
 fn sizes_fit(memory: usize, kind: u64, text: usize, out: usize) -> bool
     ensures { result ≡ sizes_fit memory kind text out }
 {
-    memory == 524288 && kind <= 1 && text <= 4097 && out >= 32
+    memory == WORDS && kind <= 1 && text <= 4097 && out >= 32
 }
 
 // A row is shown, and what it is refused with is said when it is told to go on.

@@ -1,6 +1,8 @@
 // Where the words lie that a step works in.
 ghost use Rattle.std.specs.Prelude.{◌≡◌, ◌+◌, ◌≤◌};
 
+use crate::WORDS;
+
 /// The countdown, the stack right behind it, and the pairs: none shares a word with what is kept between steps, and all are within the memory.
 #[derive(Clone, Copy, Debug)]
 pub struct Regions {
@@ -28,7 +30,7 @@ impl Regions {
         ensures { layout_of result ≡ own_layout }
     {
         Regions {
-            words: 524288,
+            words: WORDS,
             work: 4358,
             fuel: 49400,
             stack: 65553,
