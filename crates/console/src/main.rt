@@ -3,6 +3,7 @@
 #![tactic(auto)]
 
 use anyhow::anyhow;
+use notation::said::Kind;
 use notation::shown::row_text;
 use notation::source::Source;
 use reader::WORDS;
@@ -31,9 +32,9 @@ fn command(heap: Global, line: &str) -> anyhow::Result<Vec<u8>> {
     let mut bytes = Vec::new(heap);
     let mut words = line.split_whitespace();
     match words.next() {
-        Some("load") => bytes.push(1)?,
-        Some("read") => bytes.push(2)?,
-        Some("next") => bytes.push(3)?,
+        Some("load") => bytes.push(u8::from(Kind::Load))?,
+        Some("read") => bytes.push(u8::from(Kind::Read))?,
+        Some("next") => bytes.push(u8::from(Kind::Next))?,
         Some("say") | None => {}
         Some(_) => return Err(anyhow!("a line begins with load, read, next or say")),
     }

@@ -15,7 +15,7 @@ use crate::table::Table;
 use std::array;
 use words::bits;
 use words::rounds::{each_in, until_still};
-use words::rows::put;
+use words::rows::{at_or, put};
 
 /// The marks with more of them, if there is reason.
 fn mark_if(reason: bool, marks: u64, more: u64) -> u64
@@ -38,6 +38,7 @@ fn mark_productive(table: &Table, rule: usize, marks: u64) -> u64
     ensures value { OfRule table.now (λ g k. mark_rule_lem producing g k marks) rule result }
     ensures grew { Up count_ones marks result }
 {
+    // as `mark_nullable` but for the test of the row: with that test as a parameter it would be no shorter
     let produces = row_produces(table, table.first_of(rule) as usize, marks);
     mark_if(produces, marks, bits::bit(table.left_of(rule) as u64))
 }
@@ -98,6 +99,7 @@ pub fn nullable(table: &Table) -> u64
 }
 
 /// The names of which signs come.
+// as `nullable` and `reachable`: each is the common function at its own step
 pub fn productive(table: &Table) -> u64
     ensures { OfGrammar table.now productive_of result }
 {
@@ -141,6 +143,7 @@ pub fn names_in(table: &Table) -> u64
 }
 
 /// Puts what one rule adds into FIRST, and says whether that added a sign.
+// no struct of the names that can vanish and FIRST: the one is known before, the other is worked out here
 fn first_rule(table: &Table, nullable: u64, rule: usize, firsts: &mut [u64]) -> bool
     ensures value { OfRule table.now (λ g k. first_of_rule g nullable k firsts.old) rule firsts.new }
     ensures grew { Grew size firsts.old firsts.new result }
@@ -184,6 +187,12 @@ pub struct Behind {
     pub vanishes: bool,
 }
 
+/// Past the end.
+const NOTHING: Behind = Behind {
+    signs: 0,
+    vanishes: false,
+};
+
 /// What stands behind the next symbol of each place.
 #[derive(Clone, Copy)]
 pub struct Analysis {
@@ -195,14 +204,14 @@ impl Analysis {
     pub fn behind_at(&self, place: usize) -> u64
         ensures { result ≡ behind_in self.now place }
     {
-        self.places.get(place).map_or(0, |behind| behind.signs)
+        at_or(&self.places, place, NOTHING).signs
     }
 
     /// Whether what stands behind the next symbol of a place can vanish; not past the end.
     pub fn passes_at(&self, place: usize) -> bool
         ensures { result ≡ passes_in self.now place }
     {
-        self.places.get(place).is_some_and(|behind| behind.vanishes)
+        at_or(&self.places, place, NOTHING).vanishes
     }
 }
 

@@ -31,6 +31,7 @@ pub fn row_vanishes(table: &Table, from: usize, nullable: u64) -> bool
 }
 
 /// Whether a symbol comes to signs, if these names do.
+// as `can_vanish` but for signs: with what is so of signs as a parameter a caller's line says less
 #[tactic(auto, unfolding(crate::specs::Rows::producing))]
 fn comes_to_signs(symbol: Symbol, productive: u64) -> bool
     ensures { result ≡ producing productive (told symbol ∷ []) }
@@ -42,6 +43,7 @@ fn comes_to_signs(symbol: Symbol, productive: u64) -> bool
 }
 
 /// Whether the row that comes at a place comes to signs, if these names do.
+// as `row_vanishes` but for the test of a symbol, one chain each
 pub fn row_produces(table: &Table, from: usize, productive: u64) -> bool
     ensures { ReadOff table.now (producing productive) from result }
 {

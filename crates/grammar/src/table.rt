@@ -6,6 +6,7 @@ ghost use Rattle.grammar.specs.Table.{Added, Answers, Holds, NumberOf, PlaceOf, 
 
 use crate::spelling::is_grammar;
 use crate::symbol::Symbol;
+use words::rows::at_or;
 
 // Symbols stay the bytes of the spelling, so that a row is copied from it in one piece.
 /// What stands at the place behind the last symbol of a rule.
@@ -38,6 +39,9 @@ pub struct Head {
     pub left: u8,
 }
 
+/// Of a rule that there is none.
+const NO_HEAD: Head = Head { first: 0, left: 0 };
+
 /// A place in a rule: which rule, and how many of its symbols are done.
 #[derive(Clone, Copy)]
 pub struct Place {
@@ -57,7 +61,7 @@ impl Table {
     pub fn symbol_at(&self, place: usize) -> u8
         ensures { result ≡ symbol_in self.now place }
     {
-        self.symbols.get(place).copied().unwrap_or(COMPLETE)
+        at_or(&self.symbols, place, COMPLETE)
     }
 
     /// The symbol that comes next at a place; none at a complete one.
@@ -73,21 +77,21 @@ impl Table {
     pub fn owner_of(&self, place: usize) -> u8
         ensures { result ≡ owner_in self.now place }
     {
-        self.owners.get(place).copied().unwrap_or(0)
+        at_or(&self.owners, place, 0)
     }
 
     /// The place where a rule begins.
     pub fn first_of(&self, rule: usize) -> u8
         ensures { result ≡ first_in self.now rule }
     {
-        self.heads.get(rule).map_or(0, |head| head.first)
+        at_or(&self.heads, rule, NO_HEAD).first
     }
 
     /// The name that a rule is for.
     pub fn left_of(&self, rule: usize) -> u8
         ensures { result ≡ left_in self.now rule }
     {
-        self.heads.get(rule).map_or(0, |head| head.left)
+        at_or(&self.heads, rule, NO_HEAD).left
     }
 
     /// The symbols of the row that comes at a place.
@@ -126,7 +130,7 @@ impl Table {
             places: 0,
             symbols: [COMPLETE; 192],
             owners: [0; 192],
-            heads: [Head { first: 0, left: 0 }; 64],
+            heads: [NO_HEAD; 64],
         }
     }
 

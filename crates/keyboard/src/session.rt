@@ -2,28 +2,11 @@
 use crate::help::LINES;
 use notation::fault::Fault;
 use notation::rules::Notation;
-use notation::said::Spelled;
+use notation::said::{Kind, Spelled};
 use notation::shown;
 use reader::refusal::Refusal;
 use reader::{Told, WORDS};
 use std::alloc::{AllocError, Global};
-
-// What is asked of the machine about a text.
-#[derive(Clone, Copy)]
-enum Asked {
-    Read,
-    Next,
-}
-
-// The first byte of the command.
-impl From<Asked> for u8 {
-    fn from(asked: Asked) -> u8 {
-        match asked {
-            Asked::Read => 2,
-            Asked::Next => 3,
-        }
-    }
-}
 
 // What the machine does with one command: all numbers that it shows, and why it refuses it.
 #[derive(Drop)]
@@ -56,9 +39,9 @@ fn grammar_refused(
     refusal: Refusal,
     row: &[u64],
 ) -> Result<String, AllocError> {
-    match row {
-        [due, other, ahead] => spelled.clash(heap, *due, *other, *ahead),
-        [name] => spelled.notation.useless(heap, *name),
+    match (refusal, row) {
+        (Refusal::Clash, [due, other, ahead]) => spelled.clash(heap, *due, *other, *ahead),
+        (Refusal::Useless, [name]) => spelled.notation.useless(heap, *name),
         _ => refused(heap, refusal),
     }
 }
@@ -67,19 +50,19 @@ fn grammar_refused(
 fn text_answered(
     heap: Global,
     notation: &Notation,
-    asked: Asked,
+    asked: Kind,
     line: &str,
     answer: &Answer,
 ) -> Result<String, Fault> {
     let shown = answer.shown.as_slice();
     let Some(refusal) = answer.refused else {
         return match asked {
-            Asked::Read => notation.reading(heap, shown),
-            Asked::Next => Ok(shown::row_text(heap, shown)?),
+            Kind::Next => Ok(shown::row_text(heap, shown)?),
+            Kind::Load | Kind::Read => notation.reading(heap, shown),
         };
     };
     match (asked, shown) {
-        (Asked::Read, [place]) => Ok(shown::wrong_at(heap, line, *place)?),
+        (Kind::Read, [place]) => Ok(shown::wrong_at(heap, line, *place)?),
         _ => Ok(refused(heap, refusal)?),
     }
 }
@@ -89,6 +72,7 @@ impl Machine {
     fn ask(&mut self, heap: Global, bytes: &[u8]) -> Result<Answer, AllocError> {
         let mut shown = Vec::new(heap);
         let mut out = [0u64; 32];
+        // as the machine's entry has it: 0 says the row of bytes, 1 goes on
         let mut kind = 0;
         // That each command ends is the reader's theorem; the bound only shows it here.
         for _ in 0..u64::MAX {
@@ -137,7 +121,7 @@ impl Session {
     }
 
     // A text, and what is asked about it.
-    fn text(&mut self, heap: Global, asked: Asked, line: &str) -> Result<String, Fault> {
+    fn text(&mut self, heap: Global, asked: Kind, line: &str) -> Result<String, Fault> {
         if self.notation.rules.is_empty() {
             return Err(Fault::NoRules);
         }
@@ -157,8 +141,8 @@ impl Session {
     // A line that begins with a colon.
     fn command(&mut self, heap: Global, line: &str) -> Result<String, Fault> {
         match line.split_once(' ').unwrap_or((line, "")) {
-            (":next", text) => self.text(heap, Asked::Next, text),
-            (":read", text) => self.text(heap, Asked::Read, text),
+            (":next", text) => self.text(heap, Kind::Next, text),
+            (":read", text) => self.text(heap, Kind::Read, text),
             (":rules", "") => Ok(self.notation.all_rules(heap)?),
             (":clear", "") => {
                 self.notation = Notation::new(heap);
@@ -183,6 +167,6 @@ impl Session {
             self.machine.loaded = false;
             return Ok(String::new(heap));
         }
-        self.text(heap, Asked::Read, line)
+        self.text(heap, Kind::Read, line)
     }
 }

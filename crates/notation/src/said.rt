@@ -7,12 +7,37 @@ ghost use Rattle.std.specs.List.{flat_map};
 use crate::fault::Fault;
 use crate::rules::{Notation, Rule, SIGNS};
 use std::alloc::Global;
+use words::rows::at_or;
 
 // The signs that a text may have.
 const LENGTH: usize = 4096;
 
-// The first bytes of commands.
+// The first byte of the command that loads.
 const LOAD: u8 = 1;
+
+// What a command is.
+#[derive(Clone, Copy, Debug, PartialEq, Eq)]
+pub enum Kind {
+    Load,
+    Read,
+    Next,
+}
+
+// The first byte of the command.
+impl From<Kind> for u8 {
+    ghost use Rattle.std.specs.Prelude.{◌≡◌};
+    ghost use Rattle.notation.specs.Kinds.{kind_code};
+
+    ghost from_gives = { λ kind byte. byte ≡ kind_code kind };
+
+    fn from(kind: Kind) -> u8 {
+        match kind {
+            Kind::Load => LOAD,
+            Kind::Read => 2,
+            Kind::Next => 3,
+        }
+    }
+}
 
 // How many there are, in a byte.
 fn byte(count: usize) -> Result<u8, Fault>
@@ -24,6 +49,13 @@ fn byte(count: usize) -> Result<u8, Fault>
     }
 }
 
+// The byte of a word.
+pub fn code(codes: &[u8], word: usize) -> u8
+    ensures { result ≡ code_of codes.now word }
+{
+    at_or(codes, word, 0)
+}
+
 // A notation, and for each of its words the byte that spells it.
 #[derive(Clone, Copy)]
 pub struct Spelled<'a> {
@@ -32,20 +64,13 @@ pub struct Spelled<'a> {
 }
 
 impl Spelled<'_> {
-    // The byte of a word.
-    pub fn code(&self, word: usize) -> u8
-        ensures { result ≡ code_of self.now.codes.now word }
-    {
-        self.codes.get(word).copied().unwrap_or(0)
-    }
-
     fn say_rule(&self, bytes: &mut Vec<u8>, rule: &Rule) -> Result<(), Fault>
         ensures { OnOk result (bytes.new.items ≡ bytes.old.items ++ rule_said self.now.codes.now rule.now) }
     {
-        let name = self.code(rule.left).saturating_sub(32);
+        let name = code(self.codes, rule.left).saturating_sub(32);
         let count = byte(rule.right.len())?;
         bytes.extend_from_slice(&[name, count])?;
-        bytes.extend(rule.right.iter().map(|word| self.code(*word)))?;
+        bytes.extend(rule.right.iter().map(|word| code(self.codes, *word)))?;
         Ok(())
     }
 
@@ -79,7 +104,7 @@ impl Spelled<'_> {
         let Some(number) = self.notation.words.find(word) else {
             return Err(Fault::Unknown(String::from_str(heap, word)?));
         };
-        let sign = self.code(number);
+        let sign = code(self.codes, number);
         if sign >= SIGNS {
             return Err(Fault::Name(String::from_str(heap, word)?));
         }

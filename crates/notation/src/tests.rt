@@ -113,6 +113,12 @@ fn rows_are_shown(rt: HostRuntime) -> Result<(), Fail> {
 fn words_name_a_source(rt: HostRuntime) -> Result<(), Fail> {
     assert!(rt; matches!(Source::named(&rt, "it", None), Ok(Source::Input)));
     assert!(rt; matches!(Source::named(&rt, "it", Some("--help")), Ok(Source::Help)));
+    assert!(rt;
+        matches!(
+            Source::named(&rt, "it", Some("/dev/null")),
+            Ok(Source::File(_))
+        )
+    );
     assert!(rt; Source::named(&rt, "it", Some("no/file")).is_err());
     Ok(())
 }

@@ -15,7 +15,7 @@ use items::sets::{Action, END, ItemSet, action_at, goto, start};
 use words::packed::{self, push, read};
 
 /// A configuration without the room for its stack: how many symbols stand on it, how many signs are taken, and the item set behind the stack.
-// not one struct with the stack: a caller lends words of its memory for one call, and keeps the three fields in words of their own
+// not one struct with the stack, whose words a caller lends for one call: it keeps the numbers in words of their own, and the items are worked out again
 #[derive(Clone, Copy)]
 pub struct State {
     pub height: usize,
@@ -27,6 +27,7 @@ pub struct State {
 pub fn lookahead(text: &[u8], taken: usize) -> u8
     ensures { result ≡ slice_index_or text.now taken 24 }
 {
+    // what is left of the text is handed on from its middle, and looked at: no `at_or`
     let Some([sign, ..]) = text.get(taken..) else {
         return END;
     };

@@ -25,6 +25,7 @@ fn run_through(
     let mut state = begin(moves, stack, grammar);
     match run(moves, stack, &mut state, text.len(), text, grammar) {
         Ok(()) => Ok(expected(&state.items, &grammar.table)),
+        // a `usize` has no `From` into a `u64`
         Err(Halt::Stuck) => Err(Unread::Wrong(state.taken as u64)),
         Err(Halt::Full) => Err(Unread::GaveOut),
     }

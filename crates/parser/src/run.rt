@@ -13,6 +13,7 @@ use words::countdown::{fill, tick};
 use words::rows::zeroes;
 
 /// The empty stack, with all moves still to make that the words can count.
+// two slices and not one struct: they are halves of what a caller lends, and the borrow ends with the run
 pub fn begin(moves: &mut [u64], stack: &mut [u64], grammar: &Prepared) -> State
     ensures moves { value moves.new ≡ 2 ^ (64 * length moves.old) - 1 }
     ensures stack { (g : Grammar) → Describes grammar.now g → config_of stack.new result ≡ start_config g (8 * length stack.old) }

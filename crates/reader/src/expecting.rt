@@ -39,6 +39,7 @@ pub fn expect(memory: &mut [u64], regions: Regions, signs: &[u8], out: &mut [u64
     requires room { 32 ≤ length out.old }
     ensures { StepTold (expects (layout_of regions) memory.old signs.now) result out.old memory.new out.new }
 {
+    // as `read` begins, and as it is refused; what they do in between differs
     let Some(grammar) = loaded(memory) else {
         return Told::No(Refusal::NoGrammar);
     };

@@ -15,7 +15,7 @@ use conflicts::clashes::find_clash;
 use grammar::analysis::useless;
 use grammar::prepared::Prepared;
 use grammar::spelling::is_symbol;
-use grammar::table;
+use grammar::table::{self, FIRST_NAME};
 use memory::{PHASE, Phase, keep};
 use refusal::Refusal;
 use regions::Regions;
@@ -37,12 +37,13 @@ pub const WORDS: usize = 524288;
 
 #[derive(Clone, Copy, Debug, PartialEq, Eq)]
 pub enum Told {
-    // So many numbers.
+    // So many numbers, at the front of the row that is lent: as C has it, which has no slices in an answer.
     Shows(u64),
     Done,
     No(Refusal),
 }
 
+// one chain, as grammar has it of right sides
 fn all_symbols(symbols: &[u8]) -> bool
     ensures { result ≡ are_symbols symbols.now }
 {
@@ -59,7 +60,7 @@ pub fn last_name(symbols: &[u8]) -> Result<Option<u64>, Refusal>
     Ok(
         symbols
             .iter()
-            .rposition(|s| *s >= 32)
+            .rposition(|s| *s >= FIRST_NAME)
             .map(|place| place as u64),
     )
 }
@@ -72,6 +73,8 @@ fn sizes_fit(memory: usize, kind: u64, text: usize, out: usize) -> bool
 }
 
 // A row is shown, and what it is refused with is said when it is told to go on.
+// The memory and the row are parameters of each function here, and no struct of two lent slices: they are what `step` is lent, and what contracts speak of. How
+// long they are is asked of each, since `step` has tested it and `&mut` slices carry no length.
 fn refuses(memory: &mut [u64], refusal: Refusal, row: &[u64], out: &mut [u64]) -> Told
     requires phase { 258 < length memory.old }
     requires room { length row.now ≤ length out.old }

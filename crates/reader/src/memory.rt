@@ -55,6 +55,7 @@ impl From<u64> for Phase {
         match word {
             1 => Phase::Telling,
             2 => Phase::Told,
+            // not any number of a refusal: only what was shown is refused when it is told to go on
             4 => Phase::Refused(Refusal::NoText),
             5 => Phase::Refused(Refusal::Clash),
             6 => Phase::Refused(Refusal::Useless),
@@ -83,6 +84,7 @@ pub fn low_bytes<const N: usize>(words: &[u64]) -> [u8; N]
 }
 
 /// The grammar of this spelling is the one from then on.
+// how long the memory is, here and below: a lent slice carries no length, and `step` has tested it
 pub fn keep(memory: &mut [u64], spelling: &[u8])
     requires { (258 < length memory.old) × (length spelling.now ≤ 257) }
     ensures { memory.new ≡ with_spelling spelling.now memory.old }

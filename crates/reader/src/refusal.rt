@@ -56,20 +56,29 @@ impl TryFrom<u64> for Refusal {
 }
 
 impl fmt::Display for Refusal {
+    ghost use Rattle.std.specs.Prelude.{Some};
+    ghost use Rattle.reader.specs.Refusals.{refusal_words};
+
+    ghost output = { λ refusal. Some (refusal_words refusal) };
+
     fn fmt<W: fmt::Write>(&self, f: &mut fmt::Formatter<W>) -> fmt::Result {
-        f.write_str(match self {
-            Refusal::Sizes => "sizes that do not fit",
-            Refusal::NoCommand => "no command",
-            Refusal::Unknown => "a command that is not known yet",
-            Refusal::NoGrammar => "there is no grammar",
-            Refusal::NoText => "no text of the grammar",
-            Refusal::Clash => "one sign ahead is not enough",
-            Refusal::Useless => "a name is of no use",
-        })
+        match self {
+            Refusal::Sizes => f.write_str("sizes that do not fit"),
+            Refusal::NoCommand => f.write_str("no command"),
+            Refusal::Unknown => f.write_str("a command that is not known yet"),
+            Refusal::NoGrammar => f.write_str("there is no grammar"),
+            Refusal::NoText => f.write_str("no text of the grammar"),
+            Refusal::Clash => f.write_str("one sign ahead is not enough"),
+            Refusal::Useless => f.write_str("a name is of no use"),
+        }
     }
 }
 
 impl fmt::Display for NoRefusal {
+    ghost use Rattle.std.specs.Prelude.{Some, codes};
+
+    ghost output = { λ _. Some (codes "no such number") };
+
     fn fmt<W: fmt::Write>(&self, f: &mut fmt::Formatter<W>) -> fmt::Result {
         f.write_str("no such number")
     }

@@ -20,6 +20,7 @@ fn lowest(fuel: &[u64]) -> Option<usize>
 pub fn tick(fuel: &mut [u64]) -> bool
     ensures { Ticked fuel.old fuel.new result }
 {
+    // whether, and no `Result`: a run goes on `while tick(..)`
     let Some(place) = lowest(fuel) else {
         return false;
     };
