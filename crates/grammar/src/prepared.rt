@@ -6,6 +6,7 @@ use crate::analysis::{Analysis, analyse};
 use crate::table::Table;
 
 /// A grammar's table, and its analysis.
+// no ghost field says of which grammar: it would ask of callers that there is one, and what takes these is total on all
 #[derive(Clone, Copy)]
 pub struct Prepared {
     pub table: Table,

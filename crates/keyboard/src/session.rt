@@ -18,7 +18,7 @@ struct Answer {
 #[derive(Drop)]
 struct Machine {
     memory: Vec<u64>,
-    // Whether it has the grammar of the rules as they are.
+    // Whether it has the grammar of the rules as they are. A flag, since the grammar itself lies in the memory.
     loaded: bool,
 }
 

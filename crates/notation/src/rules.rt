@@ -161,5 +161,6 @@ fn name_code(place: usize) -> Result<u8, Fault>
     if place >= NAMES {
         return Err(Fault::Names);
     }
+    // the one place where a name becomes its byte
     Ok(33 + place as u8)
 }

@@ -56,7 +56,7 @@ pub fn code(codes: &[u8], word: usize) -> u8
     at_or(codes, word, 0)
 }
 
-// A notation, and for each of its words the byte that spells it.
+// A notation, and for each of its words the byte that spells it: computed from the words, and lent with them.
 #[derive(Clone, Copy)]
 pub struct Spelled<'a> {
     pub notation: &'a Notation,
@@ -67,6 +67,7 @@ impl Spelled<'_> {
     fn say_rule(&self, bytes: &mut Vec<u8>, rule: &Rule) -> Result<(), Fault>
         ensures { OnOk result (bytes.new.items ≡ bytes.old.items ++ rule_said self.now.codes.now rule.now) }
     {
+        // a left side is said by the name's number, and not by its byte
         let name = code(self.codes, rule.left).saturating_sub(32);
         let count = byte(rule.right.len())?;
         bytes.extend_from_slice(&[name, count])?;

@@ -55,6 +55,7 @@ fn symbols_of(table: &Table, rule: u8) -> usize
 fn name_of(table: &Table, rule: u8) -> u8
     ensures { (g : Grammar) → Shows table.now g → rule < length g → result ≡ 32 + (rule_of g rule).left }
 {
+    // a sum, and no conversion of a symbol: this is the one place here where a name becomes a byte
     table.left_of(usize::from(rule)).saturating_add(FIRST_NAME)
 }
 

@@ -16,7 +16,7 @@ pub const PHASE: usize = 258;
 pub const HEIGHT: usize = 259;
 /// How many signs are taken.
 pub const TAKEN: usize = 260;
-/// How many signs the text has.
+/// How many signs the text has, and word 0 how many bytes the spelling: the memory is fixed.
 pub const COUNT: usize = 261;
 /// The text begins here.
 pub const TEXT: usize = 262;
