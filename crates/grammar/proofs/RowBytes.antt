@@ -1,5 +1,5 @@
 -- The bytes of the row that comes at a place, and what is read off them.
---     vanishing_codes, producing_codes, opened_more, opened_end, named_codes      what is read off a row of bytes, and byte by byte
+--     coming_codes, opened_more, opened_end, named_codes      what is read off a row of bytes, and byte by byte
 --     read_codes      and that it is read off the row at the place
 use Rattle.std.proofs.Common.{◌≡◌, ℕ, ◌+◌, ◌<◌, ◌≤◌, Bool, false, true, ◌&&◌, List, [], ◌∷◌, length, get_or, drop, sym, refl, ap, ◌∙◌}
 use lib.Bits.{bit_or, or_zero_r}
@@ -11,7 +11,7 @@ use Rattle.grammar.specs.declared.table.Table.{Table}
 use Rattle.grammar.specs.Grammar.{pick, each, Sym, sign, name}
 use Rattle.grammar.specs.Spelling.{sym_of}
 use Rattle.grammar.specs.Places.{rest}
-use Rattle.grammar.specs.Rows.{vanishing, producing, opening, named}
+use Rattle.grammar.specs.Rows.{vanishing, producing, holding, coming, opening, named}
 use Rattle.grammar.specs.Table.{ReadOff, RowAt}
 use Rattle.grammar.proofs.Spelled.{syms_of_spelled}
 use Rattle.grammar.proofs.Places.{rest_fits}
@@ -22,15 +22,27 @@ and_true : (a : Bool) → (a && true) ≡ a
 and_true true = refl
 and_true false = refl
 
-vanishing_more : (N : ℕ) (x : Sym) (β : List Sym) → vanishing N (x ∷ β) ≡ (vanishing N (x ∷ []) && vanishing N β)
-unfolding vanishing
-vanishing_more N (sign t) β = refl
-vanishing_more N (name n) β = ap (λ a. a && vanishing N β) (sym (and_true (has_bit n N)))
+holding_more : (b : Bool) (N : ℕ) (x : Sym) (β : List Sym) → holding b N (x ∷ β) ≡ (holding b N (x ∷ []) && holding b N β)
+unfolding holding
+holding_more b N (sign t) β = ap (λ a. a && holding b N β) (sym (and_true b))
+holding_more b N (name n) β = ap (λ a. a && holding b N β) (sym (and_true (has_bit n N)))
 
-producing_more : (P : ℕ) (x : Sym) (β : List Sym) → producing P (x ∷ β) ≡ (producing P (x ∷ []) && producing P β)
-unfolding producing
-producing_more P (sign t) β = refl
-producing_more P (name n) β = ap (λ a. a && producing P β) (sym (and_true (has_bit n P)))
+-- without signs it vanishes, with them it comes to signs
+vanishing_held : (N : ℕ) (β : List Sym) → holding false N β ≡ vanishing N β
+unfolding holding vanishing
+vanishing_held N [] = refl
+vanishing_held N (sign t ∷ β) = refl
+vanishing_held N (name n ∷ β) = ap (λ b. has_bit n N && b) (vanishing_held N β)
+
+producing_held : (P : ℕ) (β : List Sym) → holding true P β ≡ producing P β
+unfolding holding producing
+producing_held P [] = refl
+producing_held P (sign t ∷ β) = producing_held P β
+producing_held P (name n ∷ β) = ap (λ b. has_bit n P && b) (producing_held P β)
+
+coming_held : (b : Bool) (N : ℕ) (β : List Sym) → holding b N β ≡ coming b N β
+coming_held true N β = producing_held N β
+coming_held false N β = vanishing_held N β
 
 opening_name : (N : ℕ) (F : List ℕ) (m n : ℕ) (β : List Sym) (v : Bool) → has_bit n N ≡ v →
     bit_or m (opening N F (name n ∷ β)) ≡ bit_or (bit_or m (get_or F n 0)) (pick v (opening N F β) 0)
@@ -52,15 +64,13 @@ named_name n = or_zero_r (bit_of n)
 
 -- ---- and by all its bytes
 
-pub vanishing_codes : (N : ℕ) (bs : List ℕ) → list_all (λ b. vanishing N (sym_of b ∷ [])) bs ≡ vanishing N (each sym_of bs)
-unfolding each vanishing
-vanishing_codes N [] = refl
-vanishing_codes N (b ∷ bs) = rw (vanishing_codes N bs) (sym (vanishing_more N (sym_of b) (each sym_of bs)))
+holding_codes : (v : Bool) (N : ℕ) (bs : List ℕ) → list_all (λ b. holding v N (sym_of b ∷ [])) bs ≡ holding v N (each sym_of bs)
+unfolding each holding
+holding_codes v N [] = refl
+holding_codes v N (b ∷ bs) = rw (holding_codes v N bs) (sym (holding_more v N (sym_of b) (each sym_of bs)))
 
-pub producing_codes : (P : ℕ) (bs : List ℕ) → list_all (λ b. producing P (sym_of b ∷ [])) bs ≡ producing P (each sym_of bs)
-unfolding each producing
-producing_codes P [] = refl
-producing_codes P (b ∷ bs) = rw (producing_codes P bs) (sym (producing_more P (sym_of b) (each sym_of bs)))
+pub coming_codes : (v : Bool) (N : ℕ) (bs : List ℕ) → list_all (λ b. holding v N (sym_of b ∷ [])) bs ≡ coming v N (each sym_of bs)
+coming_codes v N bs = holding_codes v N bs ∙ coming_held v N (each sym_of bs)
 
 pub named_codes : (m : ℕ) (bs : List ℕ) → fold (λ a b. bit_or a (named (sym_of b ∷ []))) m bs ≡ bit_or m (named (each sym_of bs))
 unfolding each named

@@ -15,6 +15,16 @@ producing P [] = true
 producing P (sign t ∷ β) = producing P β
 producing P (name n ∷ β) = has_bit n P && producing P β
 
+-- the row has no other symbols than names of N, and signs if b says so
+unfoldable pub holding : Bool → ℕ → List Sym → Bool
+holding b N [] = true
+holding b N (sign t ∷ β) = b && holding b N β
+holding b N (name n ∷ β) = has_bit n N && holding b N β
+
+-- what the one or the other is: with signs it comes to signs, without it vanishes
+abbrev pub coming : Bool → ℕ → List Sym → Bool
+coming b = pick b producing vanishing
+
 -- the signs that the row can begin with, if the names of N can vanish and each name can begin as F has it
 unfoldable pub opening : ℕ → List ℕ → List Sym → ℕ
 opening N F [] = 0

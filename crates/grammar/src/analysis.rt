@@ -7,10 +7,10 @@ ghost use Rattle.grammar.specs.Grammar.{pick};
 ghost use Rattle.grammar.specs.Analysis.{first_round as first_of_rules, first_rule_lem as first_of_rule, firsts as firsts_of, lowest as lowest_of, mark_rule_lem, name_rule, names_in, nullable as nullable_of, productive as productive_of, reach_rule, reachable as reachable_of, useless as useless_of};
 ghost use Rattle.grammar.specs.Analysed.{Analyses, ExactAtPlaces, IsBehind, Judges, behind_in, listed, passes_in};
 ghost use Rattle.grammar.specs.Marking.{MarkGrows, MarkIs};
-ghost use Rattle.grammar.specs.Rows.{producing, vanishing};
+ghost use Rattle.grammar.specs.Rows.{coming};
 ghost use Rattle.grammar.specs.Table.{OfGrammar, OfRule, OfGrammarWith};
 
-use crate::rows::{row_names, row_opening, row_produces, row_vanishes};
+use crate::rows::{row_holds, row_names, row_opening, row_vanishes};
 use crate::table::Table;
 use std::array;
 use words::bits;
@@ -24,23 +24,13 @@ fn mark_if(reason: bool, marks: u64, more: u64) -> u64
     if reason { marks | more } else { marks }
 }
 
-/// A rule marks its name if its row can vanish.
-fn mark_nullable(table: &Table, rule: usize, marks: u64) -> u64
-    ensures value { OfRule table.now (λ g k. mark_rule_lem vanishing g k marks) rule result }
+/// A rule marks its name if its row has no other symbols than names that are marked, and signs where signs hold.
+fn mark_held(table: &Table, rule: usize, signs: bool, marks: u64) -> u64
+    ensures value { OfRule table.now (λ g k. mark_rule_lem (coming signs) g k marks) rule result }
     ensures grew { Up count_ones marks result }
 {
-    let vanishes = row_vanishes(table, table.first_of(rule) as usize, marks);
-    mark_if(vanishes, marks, bits::bit(table.left_of(rule) as u64))
-}
-
-/// A rule marks its name if its row comes to signs.
-fn mark_productive(table: &Table, rule: usize, marks: u64) -> u64
-    ensures value { OfRule table.now (λ g k. mark_rule_lem producing g k marks) rule result }
-    ensures grew { Up count_ones marks result }
-{
-    // as `mark_nullable` but for the test of the row: with that test as a parameter it would be no shorter
-    let produces = row_produces(table, table.first_of(rule) as usize, marks);
-    mark_if(produces, marks, bits::bit(table.left_of(rule) as u64))
+    let held = row_holds(table, table.first_of(rule) as usize, signs, marks);
+    mark_if(held, marks, bits::bit(table.left_of(rule) as u64))
 }
 
 /// A rule of a name that is marked marks the names of its row.
@@ -94,7 +84,7 @@ pub fn nullable(table: &Table) -> u64
     mark_all(
         table.rules,
         0,
-        |rule, marks| mark_nullable(table, rule, marks),
+        |rule, marks| mark_held(table, rule, false, marks),
     )
 }
 
@@ -106,7 +96,7 @@ pub fn productive(table: &Table) -> u64
     mark_all(
         table.rules,
         0,
-        |rule, marks| mark_productive(table, rule, marks),
+        |rule, marks| mark_held(table, rule, true, marks),
     )
 }
 

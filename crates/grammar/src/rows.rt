@@ -1,6 +1,6 @@
 // What is read off the row of symbols that comes at a place: whether it can vanish, comes to signs, what it can begin with, its names.
 ghost use Rattle.std.specs.Prelude.{◌≡◌, [], ◌∷◌};
-ghost use Rattle.grammar.specs.Rows.{named, opening, producing, vanishing};
+ghost use Rattle.grammar.specs.Rows.{coming, holding, named, opening, producing, vanishing};
 ghost use Rattle.grammar.specs.Symbols.{told};
 ghost use Rattle.grammar.specs.Table.{ReadOff};
 
@@ -9,48 +9,39 @@ use crate::table::Table;
 use words::bits;
 use words::rows::at;
 
-/// Whether a symbol can vanish, if these names can.
-#[tactic(auto, unfolding(crate::specs::Rows::vanishing))]
-fn can_vanish(symbol: Symbol, nullable: u64) -> bool
-    ensures { result ≡ vanishing nullable (told symbol ∷ []) }
+/// Whether a symbol is one of these names, or a sign where signs hold.
+#[tactic(auto, unfolding(crate::specs::Rows::holding))]
+fn holds(signs: bool, names: u64, symbol: Symbol) -> bool
+    ensures { result ≡ holding signs names (told symbol ∷ []) }
 {
     match symbol {
-        Symbol::Sign(_) => false,
-        Symbol::Name(name) => bits::test(nullable, u64::from(name)),
+        Symbol::Sign(_) => signs,
+        Symbol::Name(name) => bits::test(names, u64::from(name)),
     }
+}
+
+/// Whether the row that comes at a place has no other symbols than these names, and signs where signs hold.
+pub(crate) fn row_holds(table: &Table, from: usize, signs: bool, names: u64) -> bool
+    ensures { ReadOff table.now (coming signs names) from result }
+{
+    table
+        .row_at(from)
+        .iter()
+        .all(|code| holds(signs, names, Symbol::from(*code)))
 }
 
 /// Whether the row that comes at a place can vanish, if these names can.
 pub fn row_vanishes(table: &Table, from: usize, nullable: u64) -> bool
     ensures { ReadOff table.now (vanishing nullable) from result }
 {
-    table
-        .row_at(from)
-        .iter()
-        .all(|code| can_vanish(Symbol::from(*code), nullable))
-}
-
-/// Whether a symbol comes to signs, if these names do.
-// as `can_vanish` but for signs: with what is so of signs as a parameter a caller's line says less
-#[tactic(auto, unfolding(crate::specs::Rows::producing))]
-fn comes_to_signs(symbol: Symbol, productive: u64) -> bool
-    ensures { result ≡ producing productive (told symbol ∷ []) }
-{
-    match symbol {
-        Symbol::Sign(_) => true,
-        Symbol::Name(name) => bits::test(productive, u64::from(name)),
-    }
+    row_holds(table, from, false, nullable)
 }
 
 /// Whether the row that comes at a place comes to signs, if these names do.
-// as `row_vanishes` but for the test of a symbol, one chain each
 pub fn row_produces(table: &Table, from: usize, productive: u64) -> bool
     ensures { ReadOff table.now (producing productive) from result }
 {
-    table
-        .row_at(from)
-        .iter()
-        .all(|code| comes_to_signs(Symbol::from(*code), productive))
+    row_holds(table, from, true, productive)
 }
 
 /// The signs that the row that comes at a place can begin with, if these names can vanish and each name can begin with these signs.
