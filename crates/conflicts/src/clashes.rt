@@ -83,6 +83,7 @@ fn begin_rules(work: &mut [u64], table: &Table, pair: Pair, here: u64, there: u6
 }
 
 /// What a rule begun at `p` can have ahead, where `p` has the word `here`.
+// no `ahead_of` of items: that is 0 where nothing is ahead, and this is not
 fn begun_own(analysis: &Analysis, p: usize, here: u64) -> u64
     ensures { (g : Grammar) → Analysed g analysis.now → p < places g → result ≡ begun_own_of g p here }
 {

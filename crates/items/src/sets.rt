@@ -146,6 +146,7 @@ fn advance_place(next: &mut [u64], set: &[u64], table: &Table, symbol: u8, place
 pub fn advance(set: &ItemSet, table: &Table, symbol: u8) -> ItemSet
     ensures { OfGrammar table.now (λ g. advanced_set g symbol set.now.words) result.words }
 {
+    // no `each_in`: one row is read, and another one written
     let mut next = ItemSet::default();
     for place in 0..table.places {
         advance_place(&mut next.words, &set.words, table, symbol, place);

@@ -28,6 +28,7 @@ pub struct Session {
     machine: Machine,
 }
 
+// As console says it: a common function would stand on the reader, and notation does not.
 fn refused(heap: Global, refusal: Refusal) -> Result<String, AllocError> {
     format!(in heap; "refused, {}: {refusal}", u64::from(refusal))
 }

@@ -34,6 +34,7 @@ impl Notation {
     // All rules, a line each, with their numbers.
     pub fn all_rules(&self, heap: Global) -> Result<String, AllocError> {
         let mut text = String::new(heap);
+        // a loop, and no chain that is joined: the text of a rule may fail
         for (number, rule) in (1u64..).zip(&self.rules) {
             if number > 1 {
                 text.push_str("\n")?;

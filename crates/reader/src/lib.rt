@@ -60,6 +60,7 @@ pub fn last_name(symbols: &[u8]) -> Result<Option<u64>, Refusal>
     Ok(
         symbols
             .iter()
+            // by the byte: that it is a symbol's is known here
             .rposition(|s| *s >= FIRST_NAME)
             .map(|place| place as u64),
     )

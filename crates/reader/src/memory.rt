@@ -12,7 +12,7 @@ use std::array;
 
 /// The word that says what the machine is at.
 pub const PHASE: usize = 258;
-/// How many symbols stand on the stack.
+/// How many symbols stand on the stack, whose words are fixed.
 pub const HEIGHT: usize = 259;
 /// How many signs are taken.
 pub const TAKEN: usize = 260;
