@@ -123,6 +123,37 @@ place_parts (r ∷ g) p h =
           }
     ]
 
+-- where the rules begin and end: behind each comes the next, and behind the last no place
+first_place_zero : (g : Grammar) → first_place_lem g 0 ≡ 0
+unfolding first_place_lem
+first_place_zero [] = refl
+first_place_zero (r ∷ rs) = refl
+
+pub first_place_next : (g : Grammar) (k : ℕ) → k < length g → first_place_lem g (suc k) ≡ first_place_lem g k + suc (length (rule g k).right)
+unfolding first_place_lem rule
+first_place_next [] k h = absurd (omega arith)
+first_place_next (r ∷ rs) zero h = omega (arith, first_place_zero rs)
+first_place_next (r ∷ rs) (suc k) h = omega (arith, first_place_next rs k (omega arith))
+
+pub first_place_all : (g : Grammar) → first_place_lem g (length g) ≡ places g
+unfolding first_place_lem places
+first_place_all [] = refl
+first_place_all (r ∷ rs) = ap (λ n. suc (length r.right) + n) (first_place_all rs)
+
+pub place_end : (g : Grammar) (p : ℕ) → p < places g → first_place_lem g (suc (owner g p)) ≡ suc (p + length (rest g p))
+place_end g p h =
+    let t = place_parts g p h in
+    omega (arith, first_place_next g (owner g p) t.owner_within, t.number, ap length t.whole, length-append t.done (rest g p))
+
+first_place_within : (g : Grammar) (k : ℕ) → k < length g → first_place_lem g (suc k) ≤ places g
+unfolding first_place_lem places
+first_place_within [] k h = absurd (omega arith)
+first_place_within (r ∷ rs) zero h = omega (arith, first_place_zero rs)
+first_place_within (r ∷ rs) (suc k) h = omega (arith, first_place_within rs k (omega arith))
+
+pub rest_within : (g : Grammar) (p : ℕ) → p < places g → p + length (rest g p) < places g
+rest_within g p h = omega (arith, place_end g p h, first_place_within g (owner g p) (place_parts g p h).owner_within)
+
 pub place_once : (g : Grammar) (p q : ℕ) → p < places g → q < places g → owner g p ≡ owner g q → rest g p ≡ rest g q → p ≡ q
 place_once g p q h k o e =
     let s = place_parts g p h in

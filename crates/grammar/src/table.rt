@@ -1,6 +1,5 @@
 // A grammar as a table: what comes next at each of its places, and which rule the place is in.
-ghost use Rattle.std.specs.Prelude.{◌≡◌, ◌+◌, ◌<◌, [], length, nat_lt};
-ghost use Rattle.std.specs.List.{prefix_len};
+ghost use Rattle.std.specs.Prelude.{◌≡◌, ◌+◌, ◌<◌, [], length};
 ghost use Rattle.grammar.specs.Symbols.{first_of_row, next_of, told_next};
 ghost use Rattle.grammar.specs.Table.{Added, Answers, Holds, NumberOf, PlaceOf, ReadOff, RowAt, first_in, owner_in, symbol_in, left_in};
 
@@ -49,13 +48,6 @@ pub struct Place {
     pub dot: u8,
 }
 
-/// How many codes of symbols come first.
-fn symbol_count(codes: &[u8]) -> usize
-    ensures { result ≡ prefix_len (λ c. nat_lt c 64) codes.now }
-{
-    codes.iter().take_while(|code| **code < COMPLETE).count()
-}
-
 impl Table {
     /// What comes next at a place.
     pub fn symbol_at(&self, place: usize) -> u8
@@ -94,12 +86,26 @@ impl Table {
         at_or(&self.heads, rule, NO_HEAD).left
     }
 
+    /// The place behind the last symbol of the rule that a place is in.
+    fn end_of(&self, place: usize) -> usize
+        ensures { ReadOff self.now (λ β. place + length β) place result }
+    {
+        let next = usize::from(self.owner_of(place)) + 1;
+        let behind = if next < self.rules {
+            usize::from(self.first_of(next))
+        } else {
+            self.places
+        };
+        behind.saturating_sub(1)
+    }
+
     /// The symbols of the row that comes at a place.
+    // by where its rule ends, so that no symbol is looked at here: who reads the row may leave it at the first
     pub fn row_at(&self, from: usize) -> &[u8]
         ensures { RowAt self.now from result.now }
     {
-        let behind = &self.symbols[from.min(self.symbols.len())..];
-        &behind[..symbol_count(behind)]
+        let end = self.end_of(from).min(self.symbols.len());
+        &self.symbols[from.min(end)..end]
     }
 
     /// The rule of a place, and how much of it is done there.

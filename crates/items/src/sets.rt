@@ -9,7 +9,7 @@ ghost use Rattle.grammar.specs.Rows.{begins_with};
 ghost use Rattle.grammar.specs.Table.{OfGrammar, Shows, symbol_in};
 ghost use Rattle.grammar.specs.Analysed.{Analysed};
 ghost use Rattle.grammar.specs.Prepared.{Describes, OfPrepared};
-ghost use Rattle.items.specs.Code.{ComputedPlace};
+ghost use Rattle.items.specs.Code.{Begins, ComputedPlace};
 ghost use Rattle.items.specs.Behind.{GoesTo, Starts};
 ghost use Rattle.items.specs.Sets.{no_items, begin_rule, begun_ahead, close_place as close_place_of, close_round_lem as close_round_of, closure, advance_place_lem as advance_place_of, advanced_set, goto as goto_of, start_set, reduce_at, shift_at};
 ghost use Rattle.items.specs.Actions.{reduces_place, shifts_place, first_rule_lem, action_of, acts_at};
@@ -59,12 +59,12 @@ fn ahead_of(analysis: &Analysis, place: usize, here: u64) -> u64
     analysis.behind_at(place) | passed
 }
 
-/// Begins a rule with `ahead`, if it is for the name that is next at the place.
-fn begin(set: &mut [u64], table: &Table, place: usize, rule: usize, ahead: u64) -> bool
-    ensures value { (g : Grammar) → Shows table.now g → place < places g → rule < length g → set.new ≡ begin_rule g place ahead rule set.old }
+/// Begins a rule with `ahead`, if it is for the symbol that is next.
+fn begin(set: &mut [u64], table: &Table, next: Option<Symbol>, rule: usize, ahead: u64) -> bool
+    ensures value { Begins table.now next rule ahead set.old set.new }
     ensures grew { Grew size set.old set.new result }
 {
-    if is_next(table, place, rule) {
+    if next == Some(Symbol::Name(table.left_of(rule))) {
         put(set, usize::from(table.first_of(rule)), ahead)
     } else {
         false
@@ -86,10 +86,12 @@ fn begin_rules(set: &mut [u64], table: &Table, place: usize, ahead: u64) -> bool
     if !begins_any(table, place, ahead) {
         return false;
     }
+    // read once, since each rule is asked about it
+    let next = table.next_at(place);
     each_in(
         set,
         table.rules,
-        |set, rule| begin(set, table, place, rule, ahead),
+        |set, rule| begin(set, table, next, rule, ahead),
     )
 }
 
@@ -193,7 +195,8 @@ fn reduces(set: &[u64], table: &Table, ahead: u8, place: usize) -> bool
 fn shifts(set: &[u64], table: &Table, ahead: u8, place: usize) -> bool
     ensures { ComputedPlace table.now (λ g. shifts_place g set.now ahead) place result }
 {
-    table.next_at(place) == Some(Symbol::Sign(ahead)) && at(set, place) != 0
+    // the end is no sign: asked first, so that before it no place is looked at
+    ahead < END && (table.next_at(place) == Some(Symbol::Sign(ahead)) && at(set, place) != 0)
 }
 
 /// The rule of the first complete place that has the sign ahead.

@@ -1,8 +1,8 @@
 -- Lookups: what is found, and what is put into a table.
-use Rattle.std.proofs.Common.{◌≡◌, ℕ, ◌<◌, ◌≤◌, ◌⊎◌, Bool, List, [], ◌∷◌, map, length, position, slice_get, get_or, option_copied, MatchOption, Bor, Option, Some, None, Decides, inl, inr, refl, sym, ap, subst, ◌∙◌, arith}
+use Rattle.std.proofs.Common.{◌≡◌, ℕ, ◌<◌, ◌≤◌, ◌⊎◌, Bool, List, [], ◌∷◌, map, length, position, slice_get, get_or, option_copied, MatchOption, Bor, Option, Some, None, Decides, inl, inr, refl, sym, ap, ◌∙◌, arith}
 use mathlib.Core.Bool.{false≢true}
 use Rattle.std.proofs.lemmas.Grind.{common_steps}
-use Rattle.std.proofs.lemmas.List.{get_or-map, get_or_past, length-map, map-id}
+use Rattle.std.proofs.lemmas.List.{get_or-map, get_or_past, length-map}
 use Rattle.std.proofs.lemmas.List.Quantifiers.{position-Some}
 use Rattle.std.proofs.lemmas.List.Sums.{fails_before_first}
 use Rattle.std.proofs.lemmas.Option.{get_or_from_slice_get, slice_get_cases, slice_get_within}
@@ -24,10 +24,6 @@ module _ {X Y : Type 0} (f : X → Y) (p : X → Bool) (w d : Y) (says : (x : X)
 
   pub position_finds : (xs : List X) (r : Option ℕ) → r ≡ position p xs → Finds d (map f xs) w r
   position_finds xs r e = finds xs r (sym e)
-
--- the same of the items themselves
-pub first_finds : {X : Type 0} (p : X → Bool) (w d : X) → ((x : X) → Decides (p x) (w ≡ x)) → (xs : List X) (r : Option ℕ) → r ≡ position p xs → Finds d xs w r
-first_finds p w d says xs r e = subst (λ ys. Finds d ys w r) (map-id xs) (position_finds (λ x. x) p w d says xs r e)
 
 -- what stands at a place
 pub stands_there : {X Y : Type 0} (f : X → Y) (xs : List X) (i : ℕ) (x : X) (w d : Y) → slice_get xs i ≡ Some x → f x ≡ w → (i < length (map f xs)) × (get_or (map f xs) i d ≡ w)

@@ -6,11 +6,10 @@ ghost use Rattle.notation.specs.Lookups.{Added, Finds};
 
 use crate::fault::Fault;
 use crate::lexicon::Words;
-use indexmap::IndexSet;
 use std::alloc::Global;
 
 // The rules that a grammar may have besides the first, which is made up, and the symbols on their right sides together.
-const RULES: usize = 63;
+pub(crate) const RULES: usize = 63;
 
 const SYMBOLS: usize = 127;
 
@@ -30,7 +29,7 @@ pub struct Notation {
     pub words: Words,
     pub rules: Vec<Rule>,
     // The words on left sides, each once.
-    names: IndexSet<usize>,
+    names: Vec<usize>,
     // How many symbols all right sides have together.
     symbols: usize,
 }
@@ -61,26 +60,27 @@ impl Notation {
         Notation {
             words: Words::new(heap),
             rules: Vec::new(heap),
-            names: IndexSet::new(heap),
+            names: Vec::new(heap),
             symbols: 0,
         }
     }
 
     // The number of a name among the names, from 0 on.
     pub fn place_of_name(&self, word: usize) -> Option<usize>
-        ensures { Finds 0 self.now.names.keys word result }
+        ensures { Finds 0 self.now.names.items word result }
     {
-        self.names.get_index_of(&word)
+        // a row and no set: there are 31 at the most, and a set of so few costs more than it saves
+        self.names.iter().position(|name| *name == word)
     }
 
     pub fn is_name(&self, word: usize) -> bool {
-        self.names.contains(&word)
+        self.place_of_name(word).is_some()
     }
 
     // The word of a name by its number, which is 1 for the first; 0 is the beginning, which texts of the first name are of.
     pub fn word_of_name(&self, number: usize) -> &str {
         self.names
-            .get_index(number.saturating_sub(1))
+            .get(number.saturating_sub(1))
             .map_or("?", |word| self.words.word(*word))
     }
 
@@ -104,6 +104,15 @@ impl Notation {
         Ok(())
     }
 
+    fn enter_name(&mut self, word: usize) -> Result<(), Fault>
+        ensures { self.new.rules ≡ self.old.rules }
+    {
+        if !self.is_name(word) {
+            self.names.push(word)?;
+        }
+        Ok(())
+    }
+
     fn enter_all(&mut self, heap: Global, text: &str) -> Result<Vec<usize>, Fault>
         ensures { self.new.rules ≡ self.old.rules }
     {
@@ -123,7 +132,7 @@ impl Notation {
         self.room(left, symbols)?;
         let left = self.words.enter(heap, left)?;
         let right = self.enter_all(heap, behind)?;
-        self.names.insert(left)?;
+        self.enter_name(left)?;
         self.symbols = self.symbols.saturating_add(symbols);
         Ok(Rule { left, right })
     }

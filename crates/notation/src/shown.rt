@@ -4,7 +4,7 @@ ghost use Rattle.std.specs.Fmt.{decimal};
 ghost use Rattle.std.specs.List.{flat_map};
 
 use crate::fault::Fault;
-use crate::rules::{Notation, Rule};
+use crate::rules::{Notation, RULES, Rule};
 use crate::said::Spelled;
 use itertools::Itertools;
 use std::alloc::{AllocError, Global};
@@ -12,6 +12,10 @@ use std::alloc::{AllocError, Global};
 impl Notation {
     // The rule of a number that the machine tells; 0 is the one that is made up.
     fn rule(&self, number: u64) -> Option<&Rule> {
+        // the machine tells no more than a grammar may have, though `rules` may hold more
+        if number > RULES as u64 {
+            return None;
+        }
         self.rules.get(number.checked_sub(1)? as usize)
     }
 

@@ -1,6 +1,6 @@
 // The worked examples: a grammar of sums, its commands, and answers in words.
 use crate::fault::Fault;
-use crate::rules::Notation;
+use crate::rules::{Notation, Rule};
 use crate::said::Spelled;
 use crate::shown;
 use crate::source::Source;
@@ -44,6 +44,22 @@ fn readings_have_brackets(rt: HostRuntime) -> Result<(), Fail> {
     let text = notation.reading(heap, &[3, 2, 3, 2, 4, 1, 0])?;
     assert_eq!(rt; text.as_str(), "sum[sum[one[x]] + one[( sum[one[x]] )]]");
     assert!(rt; notation.reading(heap, &[1]).is_err());
+    Ok(())
+}
+
+#[test]
+fn rules_past_those_of_a_grammar_are_not_told(rt: HostRuntime) -> Result<(), Fail> {
+    let heap = rt.alloc();
+    let mut notation = Notation::new(heap);
+    notation.add(heap, "s = a")?;
+    for _ in 0..63 {
+        notation.rules.push(Rule {
+            left: 0,
+            right: Vec::new(heap),
+        })?;
+    }
+    assert!(rt; notation.reading(heap, &[64]).is_err());
+    assert_eq!(rt; notation.reading(heap, &[63])?.as_str(), "s[]");
     Ok(())
 }
 

@@ -1,5 +1,5 @@
 // What may come next: a text is run through silently, and the signs that may come behind it are shown.
-ghost use Rattle.std.specs.Prelude.{◌≡◌, ◌≤◌, true, length};
+ghost use Rattle.std.specs.Prelude.{◌≡◌, ◌+◌, ◌≤◌, true, length};
 ghost use Rattle.parser.specs.Told.{signs_in};
 ghost use Rattle.reader.specs.Entry.{StepTold};
 ghost use Rattle.reader.specs.House.{a_text};
@@ -35,7 +35,7 @@ fn show_signs(mask: u64, out: &mut [u64]) -> u64
 /// The signs that may come behind the text are shown, or the first wrong place, if no text begins so.
 pub fn expect(memory: &mut [u64], regions: Regions, signs: &[u8], out: &mut [u64]) -> Told
     requires text { a_text signs.now ≡ true }
-    requires long { length memory.old ≡ regions.words }
+    requires lent { regions.work + (regions.fuel + regions.stack) ≤ length memory.old }
     requires room { 32 ≤ length out.old }
     ensures { StepTold (expects (layout_of regions) memory.old signs.now) result out.old memory.new out.new }
 {

@@ -31,7 +31,7 @@ fn advance_in(
     text: &[u8],
     grammar: &Prepared,
 ) -> Option<u8>
-    requires { length memory.old ≡ regions.words }
+    requires { regions.work + (regions.fuel + regions.stack) ≤ length memory.old }
     ensures rule { (g : Grammar) → Describes grammar.now g → advance_of g text.now (config_of (stack_in (layout_of regions) memory.old) state.old) ≡ advanced_by result (config_of (stack_in (layout_of regions) memory.new) state.new) }
     ensures kept { memory.new ≡ replaced (regions.work + regions.fuel) regions.stack (packed (unpacked (stack_in (layout_of regions) memory.new))) memory.old }
     ensures cleared { result ≡ None → memory.new ≡ cleared (regions.work + regions.fuel) regions.stack memory.old }
@@ -42,7 +42,7 @@ fn advance_in(
 
 /// On to the next rule that ends, which is shown; rule 0 is the last. The grammar is the one that is loaded.
 fn tell(memory: &mut [u64], regions: Regions, grammar: &Prepared, out: &mut [u64]) -> Told
-    requires long { length memory.old ≡ regions.words }
+    requires lent { regions.work + (regions.fuel + regions.stack) ≤ length memory.old }
     requires room { 32 ≤ length out.old }
     ensures { (g : Grammar) → loaded memory.old ≡ g ∷ [] → Describes grammar.now g → StepTold (tells (layout_of regions) memory.old) result out.old memory.new out.new }
 {
@@ -73,7 +73,7 @@ fn tell(memory: &mut [u64], regions: Regions, grammar: &Prepared, out: &mut [u64
 /// The text is run through silently, and told if it is accepted; else the first wrong place is shown.
 pub fn read(memory: &mut [u64], regions: Regions, signs: &[u8], out: &mut [u64]) -> Told
     requires text { a_text signs.now ≡ true }
-    requires long { length memory.old ≡ regions.words }
+    requires lent { regions.work + (regions.fuel + regions.stack) ≤ length memory.old }
     requires room { 32 ≤ length out.old }
     ensures { StepTold (reads (layout_of regions) memory.old signs.now) result out.old memory.new out.new }
 {
@@ -93,7 +93,7 @@ pub fn read(memory: &mut [u64], regions: Regions, signs: &[u8], out: &mut [u64])
 
 /// Told to go on: a text is told further, or what was shown last is refused.
 pub fn go_on(memory: &mut [u64], regions: Regions, out: &mut [u64]) -> Told
-    requires long { length memory.old ≡ regions.words }
+    requires lent { regions.work + (regions.fuel + regions.stack) ≤ length memory.old }
     requires room { 32 ≤ length out.old }
     ensures { StepTold (goes_on (layout_of regions) memory.old) result out.old memory.new out.new }
 {

@@ -1,3 +1,4 @@
+use Rattle.std.proofs.Common.{arith}
 use Rattle.reader.specs.Laid.{layout_of}
 use Rattle.reader.proofs.Main.{whole}
 use Rattle.reader.proofs.Refusals.{next_told, none_refused, what_next_refused, load_told, read_told}
@@ -10,7 +11,7 @@ returns-then-not-sizes_fit c = record { says = not_told _ _ _ _ c.if-not-sizes_f
 pub go_on-requires : goal.go_on-requires
 go_on-requires c =
     let z = sizes c.args.memory.now c.args.kind c.args.text.now c.args.out.now c.if-not-sizes_fit.ensures in
-    record { long = as_long _ _ c.own-regions.ensures z.own_size; room = z.room }
+    record { lent = omega (arith, as_long _ _ c.own-regions.ensures z.own_size, c.own-regions.result.apart, c.own-regions.result.within); room = z.room }
 
 pub returns-then-kind-eq1 : goal.returns-then-kind-eq1
 returns-then-kind-eq1 c =
@@ -40,7 +41,7 @@ pub read-requires : goal.read-requires
 read-requires c =
     let z = sizes c.args.memory.now c.args.kind c.args.text.now c.args.out.now c.if-not-sizes_fit.ensures in
     let d = rw c.in-Read.is at c.in-Some.ensures in
-    record { text = d.2; long = as_long _ _ c.own-regions.ensures z.own_size; room = z.room }
+    record { text = d.2; lent = omega (arith, as_long _ _ c.own-regions.ensures z.own_size, c.own-regions.result.apart, c.own-regions.result.within); room = z.room }
 
 pub returns-in-Read : goal.returns-in-Read
 returns-in-Read c =

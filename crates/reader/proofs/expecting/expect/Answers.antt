@@ -15,7 +15,7 @@ returns-in-Ok c =
     let r = c.args.regions in
     let g = grammar_of (spelling_in m) in
     let describes = c.in-Some.ensures.1 in
-    let w = worked (layout_of r) _ m _ c.stack_end.ensures (omega (arith, c.stack_end.ensures, r.apart, r.within, c.requires.long)) c.next_signs.ensures.cleared in
+    let w = worked (layout_of r) _ m _ c.stack_end.ensures (omega (arith, c.stack_end.ensures, c.requires.lent)) c.next_signs.ensures.cleared in
     signs_told (layout_of r) m c.args.signs.now c.args.out.now g _ _ c.in-Some.ensures.0 w c.in-Ok.mask _ _ _
     (c.in-Ok.ensures.value w.fuel g describes) c.from.ensures c.show_signs.ensures.many c.show_signs.ensures.row
 
@@ -25,7 +25,7 @@ returns-in-Err-Wrong c =
     let r = c.args.regions in
     let g = grammar_of (spelling_in m) in
     let describes = c.in-Some.ensures.1 in
-    let w = worked (layout_of r) _ m _ c.stack_end.ensures (omega (arith, c.stack_end.ensures, r.apart, r.within, c.requires.long)) c.next_signs.ensures.cleared in
+    let w = worked (layout_of r) _ m _ c.stack_end.ensures (omega (arith, c.stack_end.ensures, c.requires.lent)) c.next_signs.ensures.cleared in
     wrong_told (layout_of r) m c.args.signs.now c.args.out.now g _ _ c.in-Some.ensures.0 w c.in-Err-Wrong.place _ _ _
     (rw c.in-Err-Wrong.field-0-is at (c.in-Err-Wrong.ensures.value w.fuel g describes)) c.refuses.ensures
 
@@ -35,6 +35,6 @@ returns-in-Err-GaveOut c =
     let r = c.args.regions in
     let g = grammar_of (spelling_in m) in
     let describes = c.in-Some.ensures.1 in
-    let w = worked (layout_of r) _ m _ c.stack_end.ensures (omega (arith, c.stack_end.ensures, r.apart, r.within, c.requires.long)) c.next_signs.ensures.cleared in
+    let w = worked (layout_of r) _ m _ c.stack_end.ensures (omega (arith, c.stack_end.ensures, c.requires.lent)) c.next_signs.ensures.cleared in
     unknown_told (layout_of r) m c.args.signs.now c.args.out.now g _ _ c.in-Some.ensures.0 w
     (rw c.in-Err-GaveOut.field-0-is at (c.in-Err-GaveOut.ensures.value w.fuel g describes))

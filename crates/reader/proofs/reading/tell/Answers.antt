@@ -11,7 +11,7 @@ pub returns-in_default : goal.returns-in_default
 returns-in_default c = λ g is describes.
     let m = c.args.memory.now in
     let r = c.args.regions in
-    let from = resumed (layout_of r) m g _ _ _ c.low_bytes-text.result c.resume-state.result (omega (arith, r.behind, r.apart, r.within, c.requires.long))
+    let from = resumed (layout_of r) m g _ _ _ c.low_bytes-text.result c.resume-state.result (omega (arith, r.behind, r.apart, r.within, c.requires.lent))
     is c.min-many.ensures c.low_bytes-text.ensures c.stack_start.ensures c.stack_end.ensures
     c.resume-state.ensures.height c.resume-state.ensures.taken (c.resume-state.ensures.items g describes) in
     none_told (layout_of r) m c.args.out.now g _ _ from _ _ _
@@ -21,7 +21,7 @@ pub returns : goal.returns
 returns c = λ g is describes.
     let m = c.args.memory.now in
     let r = c.args.regions in
-    let from = resumed (layout_of r) m g _ _ _ c.low_bytes-text.result c.resume-state.result (omega (arith, r.behind, r.apart, r.within, c.requires.long))
+    let from = resumed (layout_of r) m g _ _ _ c.low_bytes-text.result c.resume-state.result (omega (arith, r.behind, r.apart, r.within, c.requires.lent))
     is c.min-many.ensures c.low_bytes-text.ensures c.stack_start.ensures c.stack_end.ensures
     c.resume-state.ensures.height c.resume-state.ensures.taken (c.resume-state.ensures.items g describes) in
     let phase : c.from-2.result ≡ pick (eqb c.in-Some.rule 0) 2 1 =
